@@ -72,7 +72,8 @@ PLAYED = python3 scripts/play/examples.py "$$program" && python3 scripts/play/ro
   python3 scripts/play/serve_crash.py --rounds $(ROUNDS) "$$program" && \
   python3 scripts/play/mirror.py --rounds $(LOSSES) "$$program" && \
   python3 scripts/play/failover.py --rounds $(LOSSES) "$$program" && python3 scripts/play/carry_rows.py "$$program" && \
-  python3 scripts/play/carry_faults.py "$$program" && python3 scripts/play/join_rows.py "$$program" && \
+  python3 scripts/play/carry_faults.py "$$program" && python3 scripts/play/carry_kept.py "$$program" && \
+  python3 scripts/play/join_rows.py "$$program" && \
   python3 scripts/play/file_faults.py "$$program" && python3 scripts/play/catalogue_faults.py "$$program" && \
   python3 scripts/play/two_years.py --days $(DAYS) "$$program"
 

@@ -37,6 +37,7 @@ PLAYED = {
     "import_sheets": "import",
     "file_faults": "opening patrons zone",
     "carry_rows two_years": "carry",
+    "carry_kept": "merge",
     "join_rows": "joining",
     "serve_crash file_faults": "asked durable turn_row turn_store journal_file",
     "serve_rows": "connection hall attend serve",

@@ -16,6 +16,11 @@ in the new one.
 If something can't go over, as a copy on loan that the new catalogue lacks, nothing is written, and standard
 error lists each such thing. Loans of copies in the file of --write-off are dropped, and listed.
 
+With --keep-used the names that are in the way are kept: the old catalogue's lines of them are written after those
+of the new one, and each is listed. They go at the first carry that no longer needs them. --most-gone refuses a
+carry in which more old names of a kind would go, as after an export that was cut short. With either option `carry`
+also reports how many names came, went and were kept, and how much was carried over.
+
 With --library `carry` copies the catalogue into the folder under the next number, and begins its journal;
 `serve --library` serves it from its next start on. Without, `journal begin --opening` begins the journal.";
 

@@ -283,6 +283,27 @@ pub(crate) const WRITE_OFF: OptionWords = OptionWords {
     ..PLAIN
 };
 
+/// Whether the names that are still needed are kept.
+pub(crate) const KEEP_USED: OptionWords = OptionWords {
+    name: "keep-used",
+    help: "Keep the names that the new catalogue lacks and that are still needed, as of who has a loan",
+    only_with: &["library"],
+    ..PLAIN
+};
+
+/// How many names of a kind may go.
+pub(crate) const MOST_GONE: OptionWords = OptionWords {
+    name: "most-gone",
+    value: Value::Number(Number {
+        name: "PERCENT",
+        least: 0,
+        most: 100,
+        defaults: &[],
+    }),
+    help: "Refuse if more of the old names of a kind would go, as of a half-written export",
+    ..PLAIN
+};
+
 /// That a list is printed as JSON.
 pub(crate) const JSON: OptionWords = OptionWords {
     name: "json",

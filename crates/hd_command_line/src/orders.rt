@@ -157,6 +157,10 @@ pub struct Carry<'a> {
     pub into: Option<&'a str>,
     /// The path of the file of copies whose loans are dropped, if there is one.
     pub write_off: Option<&'a str>,
+    /// Whether names that the new catalogue lacks are kept where they are still needed.
+    pub keeps_used: bool,
+    /// How many of 100 old names of a kind may go, where that is limited.
+    pub most_gone: Option<u32>,
 }
 
 /// What `import` is asked to do.

@@ -188,6 +188,8 @@ fn carry_of<'a>(found: &ArgMatches<'a>) -> Order<'a> {
         to: text_of(found, "to"),
         into: found.get_str("into"),
         write_off: found.get_str("write-off"),
+        keeps_used: found.get_flag("keep-used"),
+        most_gone: found.get_one::<u32>("most-gone"),
     })
 }
 

@@ -8,9 +8,9 @@ ghost use Rattle.hd_joining.specs.Joining.{lacks, lacks_name};
 use hd_catalogue::{Catalogue, TerminalNo, Values, is_letter};
 use std::alloc::Allocator;
 
-/// Whether a line defines a name that a catalogue lacks.
+/// Whether a line of a catalogue file defines a name that a catalogue lacks.
 #[tactic(auto, unfolding(crate::specs::Joining::lacks))]
-pub(crate) fn lacks<A: Allocator + Copy>(old: &Catalogue<A>, line: &[u8]) -> bool
+pub fn lacks<A: Allocator + Copy>(old: &Catalogue<A>, line: &[u8]) -> bool
     ensures { result ≡ lacks old.now line.now }
 {
     let mut values = Values::of(line);

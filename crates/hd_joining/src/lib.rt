@@ -9,6 +9,7 @@ mod text;
 mod writing;
 
 pub use crate::arriving::with_arrivals;
+pub use crate::lacking::lacks;
 pub use crate::law::what_joined_extends;
 pub use crate::text::grown_text;
-pub use crate::writing::joining;
+pub use crate::writing::{joining, put_line};

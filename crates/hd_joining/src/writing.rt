@@ -35,7 +35,7 @@ pub fn joining<A: Allocator + Copy>(
 ///
 /// # Errors
 /// Out of memory.
-fn put_line<A: Allocator>(out: &mut Vec<u8, A>, line: &[u8]) -> Result<(), AllocError>
+pub fn put_line<A: Allocator>(out: &mut Vec<u8, A>, line: &[u8]) -> Result<(), AllocError>
     ensures { OnOk result (out.new.items ≡ out.old.items ++ line.now ++ 10 ∷ []) }
 {
     out.extend_from_slice(line)?;

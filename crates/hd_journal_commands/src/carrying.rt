@@ -3,10 +3,11 @@
 use crate::carried::{Target, Way, carry_desk};
 use crate::fault::JournalCommandFault;
 use crate::stepping::{Contents, see_read_back, take_steps};
-use hd_command_line::Carry;
+use hd_command_line::{Carry, LibraryFiles};
 use hd_folder::{Paths, file_path, name_part, part_path, see_no_file, write_part};
+use hd_joining::grown_text;
 use hd_journal::Journal;
-use hd_library::{Library, read_file};
+use hd_library::{Library, joined_lines, read_file};
 use hd_library_journal::{Keeping, LibraryJournalFault, end_journal, open_over};
 use hd_periods::{FileKind, FileName, carry_steps};
 use hd_turn_store::Unknown;
@@ -26,12 +27,36 @@ pub fn carry_over(rt: &HostRuntime, order: &Carry<'_>) -> Result<(), JournalComm
         },
         None => Target::File(order.into.unwrap_or("")),
     };
+    let keeping = Keeping::of(&old);
+    let before = if order.keeps_used {
+        Some(old_text(rt, &keeping.library)?)
+    } else {
+        None
+    };
     let way = Way {
         to: catalogue.as_slice(),
         write_off: order.write_off,
+        keeps_of: before.as_ref().map(|text| text.as_slice()),
+        most_gone: order.most_gone,
         into,
     };
-    carry_files(rt, &Keeping::of(&old), &way)
+    carry_files(rt, &keeping, &way)
+}
+
+/// The text of a library's catalogue, with the names that joined it.
+///
+/// # Errors
+/// A file can't be read; out of memory.
+fn old_text(rt: &HostRuntime, files: &LibraryFiles<'_>) -> Result<Vec<u8>, JournalCommandFault> {
+    let catalogue = read_file(rt, "catalogue", files.catalogue)?;
+    let joined = match files.joined {
+        Some(path) => joined_lines(rt, path)?,
+        None => None,
+    };
+    match joined {
+        Some(lines) => Ok(grown_text(rt.alloc(), catalogue.as_slice(), lines.as_slice())?),
+        None => Ok(catalogue),
+    }
 }
 
 /// Carries the desk of a library's journal over, and then ends the journal. From its opening on to its end
@@ -89,7 +114,7 @@ fn carry_journal(
         Target::File(path) => write_opening(rt, path, opening)?,
         Target::Period { folder, number } => {
             let contents = Contents {
-                catalogue: way.to,
+                catalogue: carried.catalogue.as_slice(),
                 opening,
                 joined: &[],
                 digest: carried.digest,

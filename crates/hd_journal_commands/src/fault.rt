@@ -39,6 +39,12 @@ pub enum JournalCommandFault {
     /// With the names that were to join it a library isn't set up.
     #[error("with the names that join, the library's {0}")]
     NotJoined(SetupFault),
+    /// With the old names that are still needed the new catalogue isn't accepted.
+    #[error("with the names that are kept, the new {0}")]
+    NotKept(SetupFault),
+    /// More names would go than may, a line for each kind.
+    #[error("{0}")]
+    TooManyGone(String),
     /// What the command prints can't be written.
     #[error("cannot write")]
     CannotWrite,

@@ -5,9 +5,11 @@
 mod beginning;
 mod carried;
 mod carrying;
+mod counted;
 mod fault;
 mod joining;
 mod journal_checking;
+mod kind;
 mod showing;
 mod staying;
 mod stepping;

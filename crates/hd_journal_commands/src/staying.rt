@@ -1,136 +1,22 @@
 //! What a library keeps although a catalogue file whose names join it has other values.
 
+use crate::kind::{KINDS, Kind};
 use hd_catalogue::{Catalogue, Values, first_line, is_letter, number};
-use hd_rules::{
-    BranchNo, CopyNo, MOST_LOAN_DAYS, MOST_LOANS, MOST_RENEWALS, PatronNo, TerminalNo, TitleNo,
-};
-use hd_terminal_output::{branch_name, copy_name, patron_name, terminal_name, title_name};
+use hd_rules::{MOST_LOAN_DAYS, MOST_LOANS, MOST_RENEWALS};
 use std::alloc::{AllocError, Global};
 
 /// How many names of a kind are reported.
 const MOST_NAMED: usize = 20;
 
-/// A kind of names.
-#[derive(Clone, Copy)]
-enum Kind {
-    Branch,
-    Terminal,
-    Patron,
-    Title,
-    Copy,
-}
-
-impl Kind {
-    /// The letter of its lines.
-    fn letter(self) -> u8 {
-        match self {
-            Kind::Branch => b'B',
-            Kind::Terminal => b'S',
-            Kind::Patron => b'P',
-            Kind::Title => b'T',
-            Kind::Copy => b'C',
-        }
+/// Whether a catalogue has just these values of a name of a kind, which are after it in a line.
+fn is_same(kind: Kind, old: &Catalogue, name: &[u8], values: &mut Values<'_>) -> bool {
+    match kind {
+        Kind::Branch => true,
+        Kind::Terminal => is_same_terminal(old, name, values),
+        Kind::Patron => is_same_patron(old, name, values),
+        Kind::Title => is_same_title(old, name, values),
+        Kind::Copy => is_same_copy(old, name, values),
     }
-
-    /// The word for several.
-    fn several(self) -> &'static str {
-        match self {
-            Kind::Branch => "branches",
-            Kind::Terminal => "terminals",
-            Kind::Patron => "patrons",
-            Kind::Title => "titles",
-            Kind::Copy => "copies",
-        }
-    }
-
-    /// How many a catalogue has.
-    fn count(self, old: &Catalogue) -> usize {
-        match self {
-            Kind::Branch => old.branches(),
-            Kind::Terminal => old.terminals(),
-            Kind::Patron => old.patrons(),
-            Kind::Title => old.titles(),
-            Kind::Copy => old.copies(),
-        }
-    }
-
-    /// The name with a number, empty where there is none.
-    fn name(self, old: &Catalogue, number: usize) -> &[u8] {
-        let Ok(number) = u32::try_from(number) else {
-            return b"";
-        };
-        match self {
-            Kind::Branch => name_of_branch(old, number),
-            Kind::Terminal => name_of_terminal(old, number),
-            Kind::Patron => match PatronNo::new(number) {
-                Some(patron) => patron_name(old, patron),
-                None => b"",
-            },
-            Kind::Title => match TitleNo::new(number) {
-                Some(title) => title_name(old, title),
-                None => b"",
-            },
-            Kind::Copy => match CopyNo::new(number) {
-                Some(copy) => copy_name(old, copy),
-                None => b"",
-            },
-        }
-    }
-
-    /// The number of a name, where there is one.
-    fn number(self, old: &Catalogue, name: &[u8]) -> Option<usize> {
-        match self {
-            Kind::Branch => Some(old.branch(name)?.number() as usize),
-            Kind::Terminal => terminal_number(old, name),
-            Kind::Patron => Some(old.patron(name)?.number() as usize),
-            Kind::Title => Some(old.title(name)?.number() as usize),
-            Kind::Copy => Some(old.copy(name)?.number() as usize),
-        }
-    }
-
-    /// Whether a catalogue has just these values of a name, which are after it in a line.
-    fn is_same(self, old: &Catalogue, name: &[u8], values: &mut Values<'_>) -> bool {
-        match self {
-            Kind::Branch => true,
-            Kind::Terminal => is_same_terminal(old, name, values),
-            Kind::Patron => is_same_patron(old, name, values),
-            Kind::Title => is_same_title(old, name, values),
-            Kind::Copy => is_same_copy(old, name, values),
-        }
-    }
-}
-
-/// The name of the branch with a number, empty where there is none.
-fn name_of_branch(old: &Catalogue, number: u32) -> &[u8] {
-    let Ok(number) = u16::try_from(number) else {
-        return b"";
-    };
-    match BranchNo::new(number) {
-        Some(branch) => branch_name(old, branch),
-        None => b"",
-    }
-}
-
-/// The name of the terminal with a number, empty where there is none.
-fn name_of_terminal(old: &Catalogue, number: u32) -> &[u8] {
-    let Ok(number) = u16::try_from(number) else {
-        return b"";
-    };
-    match TerminalNo::new(number) {
-        Some(terminal) => terminal_name(old, terminal),
-        None => b"",
-    }
-}
-
-/// The number of the terminal with a name, where there is one. There are few, and they are looked up by name
-/// and password alone, so each is compared.
-fn terminal_number(old: &Catalogue, name: &[u8]) -> Option<usize> {
-    for number in 0..old.terminals() {
-        if Kind::Terminal.name(old, number) == name {
-            return Some(number);
-        }
-    }
-    None
 }
 
 /// The next value of a line, empty where there is none.
@@ -248,13 +134,7 @@ pub(crate) fn staying_text(
     if !has_same_settings(old, given) {
         out.extend_from_slice(b"the first line has other values in the file, unchanged here\n")?;
     }
-    for kind in [
-        Kind::Branch,
-        Kind::Terminal,
-        Kind::Patron,
-        Kind::Title,
-        Kind::Copy,
-    ] {
+    for kind in KINDS {
         push_staying(alloc, &mut out, old, file, kind)?;
     }
     Ok(out)
@@ -327,7 +207,7 @@ fn note_line(
     if at < is_named.len() {
         is_named[at] = true;
     }
-    if kind.is_same(old, name, &mut values) {
+    if is_same(kind, old, name, &mut values) {
         Ok(())
     } else {
         other.note(name)
