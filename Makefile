@@ -22,7 +22,8 @@ help:
 	@echo 'make failover   after make run: have a second machine take over 10 times, as Pacemaker does, under 32 terminals'
 	@echo 'make years      after make run: 700 days of a small library, a carry each night, compared with a model'
 	@echo 'make terminals  after make run: 1,000 terminals at once for half a minute; memory, and how long replies take'
-	@echo 'make load       after make run: turns a second beside a server that only echoes (four minutes; rustc)'
+	@echo 'make load       after make run: turns a second beside a server that only echoes (four minutes; rustc); SYNC=5:'
+	@echo '                with a journal whose syncs take 5 ms longer'
 	@echo 'make install    after make run: program, manual page, docs and systemd units, below PREFIX ($(PREFIX)) and DESTDIR'
 	@echo 'make uninstall  take them away again'
 	@echo 'make dist       after make run: a tar.gz with all of it, for machines without the Rattle kit'
@@ -159,11 +160,17 @@ terminals:
 	@python3 scripts/play/serve_many.py
 
 # How fast holddesk serve, as make run has built it, answers beside a server that only echoes: four minutes. Needs rustc
-# and Python 3. LOAD has other words for hd_load compare (bench/out/hd_load --help).
+# and Python 3. LOAD has other words for hd_load compare (bench/out/hd_load --help). With SYNC=5 it is how fast it answers
+# with a journal's file each of whose syncs takes 5 ms longer, with 1 to 64 connections: half a minute.
 LOAD =
+SYNC =
 LIBRARIES = bench/out/demonstration.catalogue bench/out/large.catalogue
 load: bench/out/hd_load $(LIBRARIES)
+ifdef SYNC
+	@python3 scripts/measure/measure_sync.py --sync $(SYNC)
+else
 	@for library in $(LIBRARIES); do bench/out/hd_load compare --catalogue $$library $(LOAD) || exit 1; done
+endif
 
 bench/out/hd_load: $(wildcard bench/*.rs)
 	@mkdir -p bench/out
@@ -211,5 +218,5 @@ test:
 	@python3 scripts/wrong_bodies --self-test
 	@python3 scripts/gate.py $(ANEW) --verdict $(VERDICT)
 	@program=$(CURDIR)/$(PROGRAM) && $(PLAYED) && python3 scripts/play/carry_stops.py "$$program" && \
-	  python3 scripts/play/faults.py "$$program"
+	  python3 scripts/play/faults.py "$$program" && python3 scripts/play/serve_waits.py "$$program"
 	@cat $(VERDICT)
