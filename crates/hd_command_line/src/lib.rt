@@ -4,6 +4,9 @@
 mod building;
 mod carry_texts;
 mod commands;
+mod desk_parsing;
+mod desk_texts;
+mod desk_words;
 mod door_commands;
 mod door_options;
 mod door_parsing;
@@ -22,7 +25,7 @@ mod words;
 
 pub use crate::journal_texts::VIEWS;
 pub use crate::orders::{
-    Beyond, Carry, Check, Extended, Import, JournalBegin, JournalCheck, JournalJoin,
+    Beyond, Carry, Check, Deed, Desk, Extended, Import, JournalBegin, JournalCheck, JournalJoin,
     JournalListing, JournalShow, JournalViews, Kiosks, LibraryFiles, Log, Order, Place, Replay,
     Serve, Show, Status, Stop,
 };

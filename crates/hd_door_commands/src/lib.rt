@@ -8,6 +8,7 @@ mod seeing;
 mod standing;
 mod unseen;
 
+pub use crate::answering::{answer_at, refusal, unanswered};
 pub use crate::fault::DoorCommandFault;
 pub use crate::seeing::show;
 pub use crate::standing::{stop, tell_status};
