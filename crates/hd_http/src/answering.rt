@@ -178,9 +178,9 @@ pub fn awaited(request: &[u8], is_on: bool) -> usize
     ensures none { HasNoRequest request.now → result ≡ 0 }
     ensures most { result ≤ 8192 }
 {
-    let mut headers = [EMPTY_HEADER_SPAN; FIELDS];
-    match parse_request(request, &mut headers) {
-        Ok(Parsed::Complete(head)) => awaited_by_head(request, is_on, &head, &headers),
+    let mut spans = [EMPTY_HEADER_SPAN; FIELDS];
+    match parse_request(request, &mut spans) {
+        Ok(Parsed::Complete(head)) => awaited_by_head(request, is_on, &head, &spans),
         _ => 0,
     }
 }

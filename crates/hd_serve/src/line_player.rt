@@ -138,7 +138,7 @@ impl<
         requires known { IsKnownTo H.opening.contents session.state }
         requires replies { replies.old.items ≡ [] }
         ensures fed { (end : Option Ended) × (result.0 ≡ how_ended end)
-            × IsFedAtOnce H.opening.contents (IsHallFault K.faults (λ front. Unit {0})) session lines.now end
+            × IsFedAtOnce H.opening.contents (IsHallFault K.faults (λ front. Unit {0})) session.entry lines.now end
             replies.new.items }
     {
         let end = self.feed(&mut seat, &mut session, lines, replies);

@@ -100,10 +100,11 @@ impl<'e, A: Allocator + Copy> Session<'e, A> {
     {
         let stream = Stream::new(alloc)?;
         let state = SessionState::standing_as(alloc, extensions, Some(login))?;
+        let ended = None;
         Ok(Session {
             stream,
             state,
-            ended: None,
+            ended,
         })
     }
 
