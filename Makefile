@@ -68,7 +68,8 @@ PLAYED = python3 scripts/play/examples.py "$$program" && python3 scripts/play/ro
   python3 scripts/play/serve_smoke.py "$$program" && python3 scripts/play/serve_kiosk.py "$$program" && \
   python3 scripts/play/serve_hostile.py "$$program" && \
   python3 scripts/play/serve_many.py --terminals 100 --seconds 3 --latest 100 "$$program" && \
-  python3 scripts/play/serve_door.py "$$program" && python3 scripts/play/monitoring.py "$$program" && \
+  python3 scripts/play/serve_door.py "$$program" && python3 scripts/play/desk_hour.py "$$program" && \
+  python3 scripts/play/monitoring.py "$$program" && \
   python3 scripts/play/cluster.py && \
   python3 scripts/play/serve_crash.py --rounds $(ROUNDS) "$$program" && \
   python3 scripts/play/mirror.py --rounds $(LOSSES) "$$program" && \

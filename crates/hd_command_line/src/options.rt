@@ -136,6 +136,14 @@ pub(crate) const DOOR: OptionWords = OptionWords {
     ..PLAIN
 };
 
+/// Whether lines are played that come by the door.
+pub(crate) const DOOR_LINES: OptionWords = OptionWords {
+    name: "door-lines",
+    help: "Play the lines that are posted at the door, as whichever terminal they name",
+    only_with: &["door"],
+    ..PLAIN
+};
+
 /// What a server logs while it runs.
 pub(crate) const LOG: OptionWords = OptionWords {
     name: "log",

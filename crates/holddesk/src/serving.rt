@@ -101,6 +101,7 @@ pub(crate) fn serve_by<
                 observer,
                 door,
                 page,
+                has_lines: serving.order.has_door_lines,
                 files: serving.files,
                 last_commit: serving.last_commit,
             };
