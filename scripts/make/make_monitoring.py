@@ -98,8 +98,8 @@ METRICS = [
     Metric("holddesk_connections", "gauge",
            [Panel("Connections of terminals, and busy workers", "none",
                   {f"holddesk_connections{{{HERE}}}": "connections", f"holddesk_workers_busy{{{HERE}}}": "busy workers"})], [
-        Alert("HolddeskNoTerminals", "holddesk_connections == 0", 30, "info", "No terminal has been connected for half an hour",
-              "If the library is open, look at the network and the tunnel.",
+        Alert("HolddeskNoTerminals", "holddesk_connections == 0", 30, "info",
+              "No terminal has been connected for half an hour", "If the library is open, look at the network and the tunnel.",
               {"holddesk_connections": "0x60"}, {"holddesk_connections": "1x60"}),
     ]),
     Metric("holddesk_workers_busy", "gauge",

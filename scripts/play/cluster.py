@@ -84,7 +84,8 @@ def compare_cib(folder):
         text = file.read()
     states = "".join(CAN_HAVE_THE_DISK.format(id=number) for number in (1, 2))
     with open(path, "w", encoding="utf-8") as file:
-        file.write(text.replace("<cib ", '<cib have-quorum="1" dc-uuid="1" ').replace("<status/>", f"<status>{states}</status>"))
+        text = text.replace("<cib ", '<cib have-quorum="1" dc-uuid="1" ')
+        file.write(text.replace("<status/>", f"<status>{states}</status>"))
     if noise := said("crm_verify", "--xml-file", path):
         raise Trouble(f"crm_verify says {noise!r}")
     transition(path)
@@ -184,8 +185,9 @@ def compare_units(folder):
 def compare_all():
     """Tries everything for which there are tools: what was tried, and what was skipped."""
     tried, skipped = [], []
-    for name, tool, compare in (("a failover", "crm_simulate", compare_cib), ("the disk", "drbdadm", compare_drbd),
-                                ("the links", "corosync", compare_corosync), ("the units", "systemd-analyze", compare_units)):
+    for name, tool, compare in (
+            ("a failover", "crm_simulate", compare_cib), ("the disk", "drbdadm", compare_drbd),
+            ("the links", "corosync", compare_corosync), ("the units", "systemd-analyze", compare_units)):
         if shutil.which(tool):
             with tempfile.TemporaryDirectory() as folder:
                 compare(folder)

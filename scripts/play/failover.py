@@ -158,7 +158,8 @@ def play_round(cluster, terminals, draw, is_hanging):
 def compare_rows(connection, terminals):
     """Compares the rows with what the terminals were answered, one by one. How many there are."""
     rows = {it.name: [] for it in terminals}
-    for name, *row in connection.execute("SELECT terminal, act, patron, copy, title, outcome, number FROM turn ORDER BY at"):
+    query = "SELECT terminal, act, patron, copy, title, outcome, number FROM turn ORDER BY at"
+    for name, *row in connection.execute(query):
         rows[name].append(tuple(row))
     for it in terminals:
         if it.trouble:
@@ -207,7 +208,8 @@ def main():
     asked = parser.parse_args()
     answered, phases = reported("failover", compare_all, os.path.abspath(asked.program), asked.rounds, asked.round_trip,
                                 asked.library)
-    print(f"failover: {asked.rounds} failovers under {TERMINALS} terminals, {answered} turns answered, none lost, none twice")
+    print(f"failover: {asked.rounds} failovers under {TERMINALS} terminals, {answered} turns answered, none lost, none "
+          f"twice")
     for name, seconds in zip((*PHASES, "in all"), [*zip(*phases), [sum(each) for each in phases]]):
         print(f"failover: {name}: {statistics.median(seconds):.2f} s, at most {max(seconds):.2f} s")
 

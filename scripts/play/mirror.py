@@ -17,6 +17,7 @@ and Python 3. Status 0: nothing was lost.
 """
 
 import dataclasses
+import faulthandler
 import os
 import random
 import subprocess
@@ -35,6 +36,7 @@ ROUND_TRIP = 0.5  # milliseconds
 SEED = 1
 FEW = 10  # rounds in which the loss of a late mirror has to be seen
 EACH = 4  # in each fourth round a start is killed too
+LONGEST = 300  # seconds for a round: then the script ends, and prints what it waits for
 
 
 def kill_start(machines, draw):
@@ -51,6 +53,7 @@ def kill_start(machines, draw):
 def lose(machines, folder, draw, before, is_late=False):
     """Has the terminals work until their machine is lost. How many turns there are then, how many of them were answered,
     and how many weren't."""
+    faulthandler.dump_traceback_later(LONGEST, exit=True)
     with Server(machines.program, None, TERMINALS, "--library", machines.first,
                 environment=machines.environment(is_late)) as server:
         terminals = [Terminal(at + 1, server.port, random.Random(draw.random())) for at in range(TERMINALS)]
@@ -104,6 +107,7 @@ def compare_all(program, rounds, round_trip):
                 kill_start(machines, draw)
             turns, told, untold = lose(machines, folder, draw, turns)
             answered, more = answered + told, more + untold
+        faulthandler.cancel_dump_traceback_later()
         end_well(machines, folder, turns)
     return answered, more
 
