@@ -22,8 +22,8 @@ mod words;
 
 pub use crate::journal_texts::VIEWS;
 pub use crate::orders::{
-    Beyond, Carry, Check, Extended, Import, JournalBegin, JournalCheck, JournalJoin,
-    JournalListing, JournalShow, JournalViews, Kiosks, LibraryFiles, Log, Order, Place, Replay,
-    Serve, Show, Status, Stop,
+    Beyond, Carry, Check, Extended, Import, ImportedOpening, JournalBegin, JournalCheck,
+    JournalJoin, JournalListing, JournalShow, JournalViews, Kiosks, LibraryFiles, Log, Order,
+    Place, Replay, Serve, Show, Status, Stop,
 };
 pub use crate::parsing::parse;

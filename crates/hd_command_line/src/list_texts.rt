@@ -164,8 +164,8 @@ const OVERDUE_EXAMPLE: &str = "Example:
   copy  title  patron  due         renewals
   a1    ta     p1      2026-03-22  0
 
-Exit status: 0 well; 1 a fault, printed as one line (`DAY is no day`, `no server listens at PATH`, and others,
-which docs/faults.md has with what to do); 2 the command line was refused.";
+Exit status: 0 well; 1 a fault, printed as one line (`DAY is no day, as 2026-03-01`, `no server listens at
+PATH`, and others, which docs/faults.md has with what to do); 2 the command line was refused.";
 
 /// What `show expired` does.
 const EXPIRED: &str = "Shows the holds whose last day was before a day
@@ -181,8 +181,8 @@ const EXPIRED_EXAMPLE: &str = "Example:
   title  patron  stamp  admits  only  pickup  until       copy
   tb     p3      3      any           south   2026-03-15  b1
 
-Exit status: 0 well; 1 a fault, printed as one line (`DAY is no day`, `no server listens at PATH`, and others,
-which docs/faults.md has with what to do); 2 the command line was refused.";
+Exit status: 0 well; 1 a fault, printed as one line (`DAY is no day, as 2026-03-01`, `no server listens at
+PATH`, and others, which docs/faults.md has with what to do); 2 the command line was refused.";
 
 /// What `show turns` does.
 const TURNS: &str = "Shows what was asked of the desk, and what it came to

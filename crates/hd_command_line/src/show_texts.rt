@@ -22,5 +22,5 @@ pub(crate) const JOURNAL_SHOW_EXAMPLE: &str = "Example:
   p2      2      any     south   2026-04-01
 
 Exit status: 0 if all is well; 1 after a fault, printed as one line (`there is no title NAME`, `there is no
-branch NAME`, `DAY is no day`, and those of a journal's file, which docs/faults.md has with what to do); 2 if
-the command line is refused.";
+branch NAME`, `DAY is no day, as 2026-03-01`, and those of a journal's file, which docs/faults.md has with what
+to do); 2 if the command line is refused.";

@@ -16,7 +16,7 @@ pub enum ListFault {
         name: String,
     },
     /// This is no day of the form 2026-03-01.
-    #[error("{0} is no day")]
+    #[error("{0} is no day, as 2026-03-01")]
     NoDay(String),
     /// A name isn't UTF-8.
     #[error("a journal's file holds names in UTF-8, and the catalogue isn't")]
