@@ -64,7 +64,7 @@ quick:
 PLAYED = python3 scripts/play/examples.py "$$program" && python3 scripts/play/rows.py $(LONG) "$$program" && \
   python3 scripts/play/model_rows.py && python3 scripts/play/at_random.py --scripts $(SCRIPTS) "$$program" && \
   python3 scripts/play/serve_rows.py "$$program" && python3 scripts/play/import_sheets.py "$$program" && \
-  python3 scripts/play/long_queue.py "$$program" && \
+  python3 scripts/play/first_day.py "$$program" && python3 scripts/play/long_queue.py "$$program" && \
   python3 scripts/play/serve_smoke.py "$$program" && python3 scripts/play/serve_kiosk.py "$$program" && \
   python3 scripts/play/serve_hostile.py "$$program" && \
   python3 scripts/play/serve_many.py --terminals 100 --seconds 3 --latest 100 "$$program" && \

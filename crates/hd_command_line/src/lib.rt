@@ -26,8 +26,8 @@ mod words;
 
 pub use crate::journal_texts::VIEWS;
 pub use crate::orders::{
-    Beyond, Carry, Check, Deed, Desk, Extended, Import, JournalBegin, JournalCheck, JournalJoin,
-    JournalShow, JournalViews, Kiosks, LibraryFiles, ListOrder, Log, Order, Place, Replay, Serve,
-    Show, Status, Stop,
+    Beyond, Carry, Check, Deed, Desk, Extended, Import, ImportedOpening, JournalBegin,
+    JournalCheck, JournalJoin, JournalShow, JournalViews, Kiosks, LibraryFiles, ListOrder, Log,
+    Order, Place, Replay, Serve, Show, Status, Stop,
 };
 pub use crate::parsing::parse;

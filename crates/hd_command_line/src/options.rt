@@ -28,11 +28,8 @@ pub(crate) const CATALOGUE_ALWAYS: OptionWords = OptionWords {
     ..CATALOGUE
 };
 
-/// The catalogue file, or else a folder.
-pub(crate) const CATALOGUE_OR_FOLDER: OptionWords = OptionWords {
-    unless: &["library"],
-    ..CATALOGUE
-};
+/// The catalogue file, of a command that takes a folder in its place.
+pub(crate) const CATALOGUE_OR_FOLDER: OptionWords = CATALOGUE;
 
 /// The catalogue file whose new names join a library.
 pub(crate) const CATALOGUE_THAT_JOINS: OptionWords = OptionWords {

@@ -170,6 +170,8 @@ pub struct Carry<'a> {
 /// What `import` is asked to do.
 #[derive(Clone, Copy)]
 pub struct Import<'a> {
+    /// The path of the catalogue file that an opening is for, where none is made of sheets.
+    pub catalogue: Option<&'a str>,
     /// The paths of the sheets: of branches,
     pub branches: &'a str,
     /// of terminals,
@@ -198,6 +200,23 @@ pub struct Import<'a> {
     pub is_latin1: bool,
     /// The byte between two values, where it isn't to be found.
     pub separator: Option<u8>,
+    /// The opening that is to be, where one is.
+    pub opening: Option<ImportedOpening<'a>>,
+    /// The path of the patrons' file that is to be, where one is.
+    pub into_patrons: Option<&'a str>,
+}
+
+/// Which opening `import` is asked to make.
+#[derive(Clone, Copy)]
+pub struct ImportedOpening<'a> {
+    /// The path of the opening file that is to be.
+    pub into: &'a str,
+    /// The paths of the sheets of the old system, where there are such: of loans,
+    pub loans: Option<&'a str>,
+    /// of holds,
+    pub holds: Option<&'a str>,
+    /// and of hold shelves.
+    pub shelf: Option<&'a str>,
 }
 
 /// What `journal begin` is asked to do.

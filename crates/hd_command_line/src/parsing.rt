@@ -9,8 +9,8 @@ use crate::building::program;
 use crate::desk_parsing::desk_of;
 use crate::door_parsing::{list_found, show_of, status_of, stop_of};
 use crate::orders::{
-    Beyond, Carry, Check, Extended, Import, JournalBegin, JournalCheck, JournalJoin, JournalShow,
-    JournalViews, Kiosks, LibraryFiles, Log, Order, Place, Replay, Serve,
+    Beyond, Carry, Check, Extended, Import, ImportedOpening, JournalBegin, JournalCheck,
+    JournalJoin, JournalShow, JournalViews, Kiosks, LibraryFiles, Log, Order, Place, Replay, Serve,
 };
 use clap::{ArgMatches, Error};
 use std::alloc::Global;
@@ -199,6 +199,7 @@ fn carry_of<'a>(found: &ArgMatches<'a>) -> Order<'a> {
 /// What `import` is asked to do by what was found.
 fn import_of<'a>(found: &ArgMatches<'a>) -> Order<'a> {
     Order::Import(Import {
+        catalogue: found.get_str("catalogue"),
         branches: text_of(found, "branches"),
         terminals: text_of(found, "terminals"),
         patrons: text_of(found, "patrons"),
@@ -213,6 +214,19 @@ fn import_of<'a>(found: &ArgMatches<'a>) -> Order<'a> {
         renewals: found.get_one::<u32>("renewals"),
         is_latin1: found.get_str("from") == Some("latin1"),
         separator: separator_of(found.get_str("separator").unwrap_or("found")),
+        opening: imported_opening_of(found),
+        into_patrons: found.get_str("into-patrons"),
+    })
+}
+
+/// Which opening `import` is asked to make by what was found.
+fn imported_opening_of<'a>(found: &ArgMatches<'a>) -> Option<ImportedOpening<'a>> {
+    let into = found.get_str("into-opening")?;
+    Some(ImportedOpening {
+        into,
+        loans: found.get_str("loans"),
+        holds: found.get_str("holds"),
+        shelf: found.get_str("shelf"),
     })
 }
 

@@ -48,6 +48,7 @@ pub(crate) fn serve_in_memory<R: Threads + Wait + Clock + Sync>(
 ) -> Result<(), Fault> {
     let library = Library::read_at(host, files, zone_offset(rt, host, order)?)?;
     let extensions = extensions_of(host, &order.extended, &library.catalogue)?;
+    eprintln!(host; "in memory: a stop loses everything")?;
     let listener = listen(host, order, &library.catalogue)?;
     let journal = library.journal(host)?;
     let serving = Serving {
