@@ -8,7 +8,7 @@ use crate::message::{HoldMessage, Message};
 use crate::reply::{ReadReply, read_reply};
 use crate::said::Said;
 use crate::words::{day_in_words, last_day, why_in_words};
-use hd_command_line::{Deed, Desk, Show};
+use hd_command_line::{Deed, Desk, ListOrder, Show};
 use hd_door_commands::{DoorCommandFault, show};
 use hd_lists::{Key, Listing};
 use hd_message::Mode;
@@ -282,10 +282,12 @@ fn tell_account(rt: &HostRuntime, order: &Desk<'_>, patron: &str) -> Result<(), 
             rt,
             &Show {
                 door: order.door,
-                list: Listing::Patron,
-                key: Key::Name(patron),
-                after: None,
-                is_json: true,
+                shown: ListOrder {
+                    list: Listing::Patron,
+                    key: Key::Name(patron),
+                    after: None,
+                    is_json: true,
+                },
             },
         );
     }
