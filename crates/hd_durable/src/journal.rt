@@ -225,8 +225,8 @@ impl<T: TurnTable, A: Allocator + Copy> DurableJournal<T, A> {
 }
 
 impl<T: TurnTable + Drop, A: Allocator + Copy> DurableJournal<T, A> {
-    /// The journal and the table, where it is open: the table has the changing turns, each committed, and a stop
-    /// leaves no others.
+    /// The journal and the table, where it is open: the table has the changing turns, each committed, and a
+    /// stop leaves no others.
     ///
     /// # Errors
     /// Why it is shut.

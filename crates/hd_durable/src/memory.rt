@@ -1,6 +1,7 @@
 //! A journal in memory, all of whose turns are in one history.
 
-ghost use Rattle.std.specs.Prelude.{◌≡◌, ◌<◌, ◌^◌, ◌++◌, [], None, Some, IfErr, IfOk, OnErr, OnOk, length, option_map};
+ghost use Rattle.std.specs.Prelude.{◌≡◌, ◌<◌, ◌^◌, ◌++◌, [], None, Some, IfErr, IfOk, OnErr, OnOk};
+ghost use Rattle.std.specs.Prelude.{length, option_map};
 ghost use Rattle.std.specs.Arc.{arc_value};
 ghost use Rattle.hd_catalogue.specs.Contents.{facts_of};
 ghost use Rattle.hd_rules.specs.Messages.{IsKnownMessage, turn_with_reply};
@@ -213,8 +214,8 @@ impl<J: History> InMemory<J> {
         }
     }
 
-    /// The journal, of which these turns were committed; how many of its turns were answered; and why it is shut,
-    /// where it is. It is open where its table was, and all changing turns were committed.
+    /// The journal, of which these turns were committed; how many of its turns were answered; and why it is
+    /// shut, where it is. It is open where its table was, and all changing turns were committed.
     ///
     /// # Errors
     /// `Refused` where it hasn't the turns that were committed.

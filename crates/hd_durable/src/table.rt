@@ -27,7 +27,8 @@ pub trait TurnTable {
     /// name, and their terminals, are of the catalogue. A stop after it leaves them all.
     ///
     /// # Errors
-    /// Why they can't be written. A stop may then leave all of them or none, and the table is to be used no more.
+    /// Why they can't be written. A stop may then leave all of them or none, and the table is to be used no
+    /// more.
     fn commit(&mut self, turns: &[TurnRef<'_>]) -> Result<(), WriteFault>
         requires { All (λ turn. IsKnownMessage (facts_of (contents self.old)) turn.message)
             (map turn_shown turns.now) }

@@ -17,7 +17,8 @@ use hd_journal::{Ask, Journal, Keeper, Look, Office, OwnedAsk, SeatNo, Turn, Tur
 use std::alloc::{Allocator, Global};
 use std::sync::Wait;
 
-/// A seat of a hall, as an office: its turns are the seat's receipts, but for a last one that was never answered.
+/// A seat of a hall, as an office: its turns are the seat's receipts, but for a last one with which nobody was
+/// answered.
 #[derive(Drop)]
 pub struct Counter<
     'a,
@@ -70,8 +71,8 @@ impl<'a, H: House, R: Wait, A: Allocator + Copy, Q: Drop, K: Keeper<A, Q> + Drop
     /// The turn is the last of the hall's journal, and its receipt is the seat's last.
     ///
     /// # Errors
-    /// Those of `Hall::submit`. Where the turn was made and couldn't be written, the seat keeps its receipt, and
-    /// the counter answers `Unwritten` from then on.
+    /// Those of `Hall::submit`. Where the turn was made and couldn't be written, the seat keeps its receipt,
+    /// and the counter answers `Unwritten` from then on.
     pub fn submit(&mut self, ask: &Ask<'_>) -> Result<Turn, TurnFault>
         requires seat { (ask.now.seat ≡ self.old.seat.now.number) × (self.old.untold ≡ None) }
         requires known { IsKnownMessage (facts_of H.opening.contents) (message_of ask.now).message }

@@ -186,7 +186,8 @@ impl<J: History> Front<J> {
     /// Adds a turn to all that was seen, and returns whether it did. It didn't where the history is longer.
     pub fn add(&mut self, book: &Book<J>, turn: &TurnRef<'_>) -> bool
         requires { length self.old < 2 ^ 62 }
-        ensures { MatchBool result (self.new ≡ self.old ++ turn_shown turn.now ∷ []) (IsPrefix self.old self.new) }
+        ensures { MatchBool result (self.new ≡ self.old ++ turn_shown turn.now ∷ [])
+            (IsPrefix self.old self.new) }
     {
         let mut offer: Offer<Entry<Global>, u64, Law, Nothing> = self
             .seen
