@@ -1,6 +1,6 @@
 -- Columns and rows of one turn more.
 use Rattle.std.proofs.Common.{◌≡◌, ℕ, zero, suc, ◌+◌, ◌<◌, List, [], ◌∷◌, ◌++◌, length, map, take, get_or}
-use Rattle.std.proofs.Common.{add-one, ap, arith, refl, rules, subst, sym, ◌∙◌, false, if◌then◌else◌}
+use Rattle.std.proofs.Common.{add-one, ap, arith, refl, subst, sym, ◌∙◌, false, if◌then◌else◌}
 use Rattle.std.proofs.Common.{Result, Ok, Err, is_ok, is_err}
 use Rattle.std.proofs.Math.Seq.{take-suc}
 use Rattle.std.proofs.lemmas.List.{get_or-map, length-map, map-append}

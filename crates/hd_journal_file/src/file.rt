@@ -114,7 +114,8 @@ impl<S: Alter, F: Start, A: Allocator + Copy> TurnTable for JournalFile<S, F, A>
     ghost leaves = { λ file. MayLeave (image_at F.Start) file.is_new (arc_value file.catalogue)
         (state S.Store file.conn) };
 
-    ghost refuses = { λ old turns new. RefusesTurns S.Store (arc_value old.catalogue) old.conn turns new.conn };
+    ghost refuses = { λ old turns new. RefusesTurns S.Store (arc_value old.catalogue) old.conn turns
+        new.conn };
 
     fn commit(&mut self, turns: &[TurnRef<'_>]) -> Result<(), WriteFault> {
         a_crash_leaves_what_is_seen(&self.conn);

@@ -89,7 +89,8 @@ fn put_all<S: Alter>(tx: &mut Transaction<'_, S>, rows: &[TurnRow<'_>]) -> Resul
         (ks : List KeptTurn) → ShowsTurns (state S.Store tx.old.conn.now) head ks
         → ShowsTurns (state S.Store tx.new.conn.now) head (ks ++ map kept rows.now)) }
     ensures err { HasCleanDisk (state S.Store tx.new.conn.now)
-        → IsTrue (state S.Store tx.old.conn.now).in_transaction → IfErr result (RefusesOneOf S.Store tx.old.conn.now (map kept rows.now)) }
+        → IsTrue (state S.Store tx.old.conn.now).in_transaction
+        → IfErr result (RefusesOneOf S.Store tx.old.conn.now (map kept rows.now)) }
     ensures survives { Survives (state S.Store tx.old.conn.now) (state S.Store tx.new.conn.now) (λ _. ⊥) }
 {
     for row in rows {
@@ -107,7 +108,8 @@ fn put<S: Alter>(tx: &mut Transaction<'_, S>, row: &TurnRow<'_>) -> Result<(), E
     ensures inside { HasCleanDisk (state S.Store tx.new.conn.now) → OnOk result
         (IsTrue (state S.Store tx.new.conn.now).in_transaction) }
     ensures err { HasCleanDisk (state S.Store tx.new.conn.now)
-        → IsTrue (state S.Store tx.old.conn.now).in_transaction → IfErr result (λ error. ExecutesInside 0 insert_turn_text (cells (kept row.now))
+        → IsTrue (state S.Store tx.old.conn.now).in_transaction
+        → IfErr result (λ error. ExecutesInside 0 insert_turn_text (cells (kept row.now))
         (state S.Store tx.old.conn.now) (state S.Store tx.new.conn.now) (Err error)) }
     ensures survives { Survives (state S.Store tx.old.conn.now) (state S.Store tx.new.conn.now) (λ _. ⊥) }
 {

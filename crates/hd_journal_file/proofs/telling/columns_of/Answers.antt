@@ -1,4 +1,4 @@
-use Rattle.std.proofs.Common.{◌≡◌, ◌+◌, inr, sym, take}
+use Rattle.std.proofs.Common.{◌+◌, inr, sym, take}
 use Rattle.std.proofs.lemmas.List.{take_all}
 use Rattle.hd_journal.specs.Shown.{turn_shown}
 use Rattle.hd_journal_file.specs.Columns.{AreColumns}

@@ -8,4 +8,5 @@ use Rattle.hd_journal_file.proofs.telling.rows_of.Given as goal
 -- the turns so far have their rows
 abbrev pub invariant-loop-at : goal.invariant-loop-at
 invariant-loop-at g l =
-    (format : ℕ) → AreTurnRows (arc_value l.catalogue) format (map turn_shown (take l.at l.turns)) (map kept l.rows.items)
+    (format : ℕ) → AreTurnRows (arc_value l.catalogue) format (map turn_shown (take l.at l.turns))
+    (map kept l.rows.items)

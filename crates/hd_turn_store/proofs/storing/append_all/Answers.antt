@@ -33,13 +33,15 @@ returns-clause-err g c clean =
     let clean_put : HasCleanDisk (state g.S.Store c.put_all.new.tx.conn.now) =
     omega (arith, clean_new, c.commit.ensures.survives.clean) in
     let put = map kept c.args.rows.now in
-    let had : HasPut g.S.Store (record c.args.conn.now { in_transaction = true }) put c.put_all.new.tx.conn.now =
+    let had : HasPut g.S.Store (record c.args.conn.now { in_transaction = true }) put
+    c.put_all.new.tx.conn.now =
     rw c.transaction-tx.ensures.begun at (c.in_ok-put_all.ensures.ok clean_put) in
     for_error c.commit.result (c.commit.ensures.err clean_new)
     (λ error fails. inr (inr record {
       put = c.put_all.new.tx.conn.now;
       had = had;
-      refuses = subst (λ last. FailsToCommit (state g.S.Store c.put_all.new.tx.conn.now) (state g.S.Store last) error) same fails;
+      refuses = subst (λ last. FailsToCommit (state g.S.Store c.put_all.new.tx.conn.now)
+          (state g.S.Store last) error) same fails;
     }))
 
 pub returns-in_err-put_all-clause-err : goal.returns-in_err-put_all-clause-err

@@ -1,6 +1,5 @@
 use Rattle.std.proofs.Common.{ℕ, inl, inr, map, refl}
 use Rattle.std.specs.Arc.{arc_value}
-use Rattle.sqlite.specs.Held.{state}
 use Rattle.hd_lemmas.proofs.Results.{on_err}
 use Rattle.hd_journal.specs.Shown.{turn_shown}
 use Rattle.hd_turn_row.specs.Rows.{AreTurnRows}
