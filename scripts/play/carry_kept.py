@@ -93,7 +93,7 @@ def play(program, folder):
     same("what is counted", printed[-6:], COUNTS)
     kept = [line for line in whole if line.startswith(("P|p1|", "P|p2|", "C|a1|"))]
     same("the catalogue", lines_of(os.path.join(library, "0002.catalogue")), [*export, *kept])
-    wanted(program, ["journal", "check", "--library", library], 0, "")
+    wanted(program, ["journal", "check", "--library", library], 0, f"checking 0002 of {library}\n")
     printed = wanted(program, ["carry", "--library", library, "--to", written(folder, "whole", whole), "--keep-used"], 0, "")
     same("what a whole export keeps", [line for line in printed.splitlines() if line.startswith("kept")], [])
     return len(KEPT)
