@@ -57,8 +57,9 @@ impl<
     Q: Drop,
     K: Keeper<Global, Q> + Drop,
 > LinePlayer<'a, H, R, O, Q, K> {
-    /// Plays lines as the terminal of this name: a session that stands as it from its start is fed them, at one
-    /// present, and its replies are appended, each with a line feed behind its carriage return. Reports it.
+    /// Plays lines as the terminal of this name: a session that stands as it from its start is fed them, at
+    /// one present, and its replies are appended, each with a line feed behind its carriage return. Reports
+    /// it.
     ///
     /// The last line is played only where a carriage return ends it. The gate isn't called.
     ///
@@ -86,12 +87,11 @@ impl<
         Ok(how)
     }
 
-    /// Plays lines as the terminal of this name, if there is one. The replies are put into `replies`, which is
-    /// empty.
+    /// Plays lines as the terminal of this name, if there is one. The replies are put into `replies`, which
+    /// is empty.
     ///
     /// # Errors
     /// Out of memory. Nothing is played then.
-    #[tactic(auto, using(crate::proofs::Played::played_as))]
     fn play_named(
         &self,
         name: &[u8],
@@ -125,8 +125,8 @@ impl<
         Ok(how)
     }
 
-    /// Plays lines by a session at a seat: how that went, and the seat. Where the journal couldn't be written at a
-    /// turn, the server is to end.
+    /// Plays lines by a session at a seat: how that went, and the seat. Where the journal couldn't be written
+    /// at a turn, the server is to end.
     fn play_at(
         &self,
         mut seat: Seat<H>,
@@ -138,8 +138,8 @@ impl<
         requires known { IsKnownTo H.opening.contents session.state }
         requires replies { replies.old.items ≡ [] }
         ensures fed { (end : Option Ended) × (result.0 ≡ how_ended end)
-            × IsFedAtOnce H.opening.contents (IsHallFault K.faults (λ front. Unit {0})) session.entry lines.now end
-            replies.new.items }
+            × IsFedAtOnce H.opening.contents (IsHallFault K.faults (λ front. Unit {0})) session.entry
+            lines.now end replies.new.items }
     {
         let end = self.feed(&mut seat, &mut session, lines, replies);
         if let Some(unwritten) = stop_of(end) {
