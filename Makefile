@@ -72,8 +72,7 @@ PLAYED = python3 scripts/play/examples.py "$$program" && python3 scripts/play/ro
   python3 scripts/play/monitoring.py "$$program" && \
   python3 scripts/play/cluster.py && \
   python3 scripts/play/serve_crash.py --rounds $(ROUNDS) "$$program" && \
-  python3 scripts/play/mirror.py --rounds $(LOSSES) "$$program" && \
-  python3 scripts/play/failover.py --rounds $(LOSSES) "$$program" && python3 scripts/play/carry_rows.py "$$program" && \
+  python3 scripts/play/carry_rows.py "$$program" && \
   python3 scripts/play/carry_faults.py "$$program" && python3 scripts/play/carry_kept.py "$$program" && \
   python3 scripts/play/join_rows.py "$$program" && \
   python3 scripts/play/file_faults.py "$$program" && python3 scripts/play/catalogue_faults.py "$$program" && \
@@ -81,7 +80,6 @@ PLAYED = python3 scripts/play/examples.py "$$program" && python3 scripts/play/ro
 
 # The same soon, before an hour of proofs: at a program that is built without any, which is slower.
 play: ROUNDS = 5
-play: LOSSES = 2
 play: DAYS = 8
 play: SCRIPTS = 200
 play:
@@ -204,7 +202,6 @@ wrong:
 # last line is rt ci's once more.
 VERDICT = out/verdict
 test: ROUNDS = 20
-test: LOSSES = 4
 test: DAYS = 40
 test: SCRIPTS = 700
 test: LONG = --long
