@@ -1,6 +1,6 @@
 //! The program's commands, put together from their words.
 
-use crate::commands::{below_journal, carry_and_import, check_and_replay, serve};
+use crate::commands::{below_journal, carry, check_and_replay, import, serve};
 use crate::door_commands::{status_and_stop, words_of};
 use crate::door_texts::SHOW_ABOUT;
 use crate::journal_texts::JOURNAL_ABOUT;
@@ -16,7 +16,8 @@ pub(crate) fn program<'a>(alloc: Global) -> Result<Command<'a>, AllocError> {
     let command = Command::new(alloc, "holddesk").version(VERSION);
     let command = with(alloc, above(command, ABOUT), check_and_replay())?;
     let command = with(alloc, command, serve())?;
-    let command = with(alloc, command, carry_and_import())?;
+    let command = with(alloc, command, carry())?;
+    let command = with(alloc, command, import())?;
     let command = command.subcommand(journal(alloc)?)?;
     let command = command.subcommand(show(alloc)?)?;
     with(alloc, command, status_and_stop())
