@@ -1,10 +1,9 @@
 //! A name, kept small.
 ghost use Rattle.std.specs.Prelude.{◌≡◌, ◌≤◌, IfOk, IsOk, length, nat_eq};
-ghost use Rattle.std.proofs.Common.{ap, rules};
+ghost use Rattle.std.proofs.Common.{ap};
 ghost use Rattle.std.specs.Cmp.Lexicographic.{bytes_decides, nat_list_eq_equiv, pointwise};
-ghost use Rattle.std.specs.Cmp.Rules.{hashing};
-ghost use Rattle.std.specs.Cmp.{partial_equiv_from_equiv};
-ghost use Rattle.std.specs.Hash as fed;
+ghost use Rattle.std.specs.Cmp.{on_equiv, on_per, partial_equiv_from_equiv};
+ghost use Rattle.hd_catalogue.specs.Kept.{at_once};
 
 use indexmap::Equivalent;
 use std::alloc::{AllocError, Allocator};
@@ -124,23 +123,53 @@ impl<A: Allocator> Eq for Name<A> {
 }
 
 impl<A: Allocator> Hash for Name<A> {
-    ghost hash_input = { fed.slice fed.u8 };
+    ghost hash_input = { at_once };
 
-    ghost respects_eq = { Prim.search (hashing, rules) };
+    ghost respects_eq = { λ x y same. ap at_once ((bytes_decides x y).0 same) };
 
     fn hash<H: Hasher>(&self, state: &mut H) {
-        self.as_slice().hash(state);
+        state.write(self.as_slice());
     }
 }
 
-impl<A: Allocator> Equivalent<Name<A>> for &[u8] {
-    ghost equivalent = { λ name kept. pointwise nat_eq name.now kept };
+/// The bytes by which a name is looked up. They are hashed as a name is: all at once, and so eight at a time.
+#[derive(Clone, Copy)]
+pub(crate) struct Sought<'a> {
+    pub(crate) bytes: &'a [u8],
+}
 
-    ghost respects_hash = { λ name kept same. ap (fed.slice fed.u8) ((bytes_decides name.now kept).0 same) };
+impl<'a> PartialEq for Sought<'a> {
+    ghost eq = { λ x y. pointwise nat_eq x.bytes.now y.bytes.now };
 
-    ghost respects_eq = { λ name x y. nat_list_eq_equiv.congr name.now x y };
+    ghost laws = { on_per (λ sought. sought.bytes.now) (partial_equiv_from_equiv nat_list_eq_equiv) };
+
+    fn eq(&self, other: &Self) -> bool {
+        self.bytes == other.bytes
+    }
+}
+
+impl<'a> Eq for Sought<'a> {
+    ghost laws = { on_equiv (λ sought. sought.bytes.now) nat_list_eq_equiv };
+}
+
+impl<'a> Hash for Sought<'a> {
+    ghost hash_input = { λ sought. at_once sought.bytes.now };
+
+    ghost respects_eq = { λ x y same. ap at_once ((bytes_decides x.bytes.now y.bytes.now).0 same) };
+
+    fn hash<H: Hasher>(&self, state: &mut H) {
+        state.write(self.bytes);
+    }
+}
+
+impl<'a, A: Allocator> Equivalent<Name<A>> for Sought<'a> {
+    ghost equivalent = { λ sought kept. pointwise nat_eq sought.bytes.now kept };
+
+    ghost respects_hash = { λ sought kept same. ap at_once ((bytes_decides sought.bytes.now kept).0 same) };
+
+    ghost respects_eq = { λ sought x y. nat_list_eq_equiv.congr sought.bytes.now x y };
 
     fn equivalent(&self, kept: &Name<A>) -> bool {
-        *self == kept.as_slice()
+        self.bytes == kept.as_slice()
     }
 }

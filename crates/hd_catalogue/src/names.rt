@@ -3,7 +3,7 @@ ghost use Rattle.std.specs.Prelude.{◌≡◌, ℕ, ◌<◌, [], ◌∷◌, ◌+
 ghost use Rattle.std.specs.Prelude.{length, option_map};
 ghost use Rattle.hd_catalogue.specs.Names.{facts_at, name_at, number_of};
 
-use crate::name::Name;
+use crate::name::{Name, Sought};
 use indexmap::IndexMap;
 use std::alloc::{AllocError, Allocator, Global};
 use std::hash::{BuildHasherDefault, FoldHasher};
@@ -57,7 +57,7 @@ impl<F: Drop, A: Allocator + Copy> Names<F, A> {
         ensures in_range { IfSome result (λ number. number < length self.now) }
         ensures none { IfNone result ((number : ℕ) → ¬ (name_at self.now number ≡ Some name.now)) }
     {
-        self.table.get_index_of(name)
+        self.table.get_index_of(Sought { bytes: name })
     }
 
     /// The name with a number, or `None` where no name has it.
