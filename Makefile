@@ -1,5 +1,5 @@
 # The commands of the README. All need the Rattle kit's command rt on the path.
-.PHONY: help try run check quick play day page hostile stops mirror failover years terminals load install uninstall dist wrong test
+.PHONY: help try run check quick play measure day page hostile stops mirror failover years terminals load install uninstall dist wrong test
 
 PREFIX ?= /usr/local
 
@@ -12,6 +12,8 @@ help:
 	@echo 'make quick      check the crates that changed against origin/HEAD, or REV=, try their wrong bodies, and play rows and'
 	@echo '                examples at a program that is built without proofs, and kept (about five minutes)'
 	@echo 'make play       what make test plays at a program, at one that is built without proofs (some 15 minutes)'
+	@echo 'make measure    count the instructions that a message takes, at a program that is built without proofs, and compare'
+	@echo '                them with the figures that are kept (five minutes; valgrind)'
 	@echo 'make day        after make run: play stored messages, and kiosks, through connections of holddesk serve'
 	@echo 'make page       after make run: look at the page of a door by headless Chromium; pictures in PICTURES ($(PICTURES))'
 	@echo 'make hostile    after make run: hostile clients beside a terminal that has to be answered'
@@ -81,6 +83,13 @@ play: SCRIPTS = 200
 play:
 	@folder=$$(mktemp -d) && trap 'rm -rf "$$folder"' EXIT && program=$$(python3 scripts/unproved.py "$$folder") && \
 	  $(PLAYED)
+
+# The instructions that a message takes beside those that are kept, at a program of replay alone, built without proofs:
+# it fails where a row takes 2 % more. Nothing is proved by this. What to do about it says docs/speed.md.
+measure:
+	@folder=$$(mktemp -d) && trap 'rm -rf "$$folder"' EXIT && \
+	  python3 scripts/measure/optimised.py --replay "$$folder/replay" && \
+	  python3 scripts/measure/instructions.py "$$folder/replay" --most 2
 
 # Stored messages through four connections of holddesk serve, as make run has built it, and the kiosks of the documents;
 # the replies are compared.
@@ -178,8 +187,8 @@ wrong:
 	@python3 scripts/wrong_bodies $(ANEW)
 
 # The gate: the picture of the crates, the page, and what a change costs, by the table of crates; bodies that the types
-# refuse; the sums by which refused wrong bodies are noted, and what is proved is kept; the script that tries wrong bodies
-# at some that mustn't count as refused; then all proofs, the wrong bodies that rt ci tries, the tests and the stored
+# refuse; the sums by which refused wrong bodies are noted, and what is proved is kept; the instructions that a message
+# takes; the script that tries wrong bodies at some that mustn't count as refused; then all proofs, the wrong bodies that rt ci tries, the tests and the stored
 # runs, and beside them wrong bodies that the script tries: those that aren't noted as refused, and a tenth of the others,
 # or all with ANEW=--anew; what is played at the program that was just proved. Its last line is rt ci's once more.
 VERDICT = out/verdict
@@ -195,6 +204,7 @@ test:
 	@python3 scripts/play/types_refuse.py
 	@python3 scripts/wrong_bodies/refused_sums.py
 	@python3 scripts/kept_sums.py
+	@$(MAKE) --no-print-directory measure
 	@python3 scripts/wrong_bodies --self-test
 	@python3 scripts/gate.py $(ANEW) --verdict $(VERDICT)
 	@program=$(CURDIR)/$(PROGRAM) && $(PLAYED) && python3 scripts/play/carry_stops.py "$$program" && \
