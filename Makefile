@@ -188,9 +188,10 @@ wrong:
 
 # The gate: the picture of the crates, the page, and what a change costs, by the table of crates; bodies that the types
 # refuse; the sums by which refused wrong bodies are noted, and what is proved is kept; the instructions that a message
-# takes; the script that tries wrong bodies at some that mustn't count as refused; then all proofs, the wrong bodies that rt ci tries, the tests and the stored
-# runs, and beside them wrong bodies that the script tries: those that aren't noted as refused, and a tenth of the others,
-# or all with ANEW=--anew; what is played at the program that was just proved. Its last line is rt ci's once more.
+# takes; the script that tries wrong bodies at some that mustn't count as refused; then all proofs, the wrong bodies that
+# rt ci tries, the tests and the stored runs, and beside them wrong bodies that the script tries: those that aren't noted
+# as refused, and a tenth of the others, or all with ANEW=--anew; what is played at the program that was just proved. Its
+# last line is rt ci's once more.
 VERDICT = out/verdict
 test: ROUNDS = 20
 test: DAYS = 40
