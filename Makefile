@@ -1,5 +1,5 @@
 # The commands of the README. All need the Rattle kit's command rt on the path.
-.PHONY: help try run check quick play day page hostile stops mirror failover years terminals load install uninstall dist wrong test
+.PHONY: help try run check quick play measure day page hostile stops mirror failover years terminals load install uninstall dist wrong test
 
 PREFIX ?= /usr/local
 
@@ -12,6 +12,8 @@ help:
 	@echo 'make quick      check the crates that changed against origin/HEAD, or REV=, try their wrong bodies, and play rows and'
 	@echo '                examples at a program that is built without proofs, and kept (about five minutes)'
 	@echo 'make play       what make test plays at a program, at one that is built without proofs (some 15 minutes)'
+	@echo 'make measure    count the instructions that a message takes, at a program that is built without proofs, and compare'
+	@echo '                them with the figures that are kept (five minutes; valgrind)'
 	@echo 'make day        after make run: play stored messages, and kiosks, through connections of holddesk serve'
 	@echo 'make page       after make run: look at the page of a door by headless Chromium; pictures in PICTURES ($(PICTURES))'
 	@echo 'make hostile    after make run: hostile clients beside a terminal that has to be answered'
@@ -20,7 +22,8 @@ help:
 	@echo 'make failover   after make run: have a second machine take over 10 times, as Pacemaker does, under 32 terminals'
 	@echo 'make years      after make run: 700 days of a small library, a carry each night, compared with a model'
 	@echo 'make terminals  after make run: 1,000 terminals at once for half a minute; memory, and how long replies take'
-	@echo 'make load       after make run: turns a second beside a server that only echoes (four minutes; rustc)'
+	@echo 'make load       after make run: turns a second beside a server that only echoes (four minutes; rustc); SYNC=5:'
+	@echo '                with a journal whose syncs take 5 ms longer'
 	@echo 'make install    after make run: program, manual page, docs and systemd units, below PREFIX ($(PREFIX)) and DESTDIR'
 	@echo 'make uninstall  take them away again'
 	@echo 'make dist       after make run: a tar.gz with all of it, for machines without the Rattle kit'
@@ -61,11 +64,12 @@ quick:
 PLAYED = python3 scripts/play/examples.py "$$program" && python3 scripts/play/rows.py $(LONG) "$$program" && \
   python3 scripts/play/model_rows.py && python3 scripts/play/at_random.py --scripts $(SCRIPTS) "$$program" && \
   python3 scripts/play/serve_rows.py "$$program" && python3 scripts/play/import_sheets.py "$$program" && \
-  python3 scripts/play/long_queue.py "$$program" && \
+  python3 scripts/play/first_day.py "$$program" && python3 scripts/play/long_queue.py "$$program" && \
   python3 scripts/play/serve_smoke.py "$$program" && python3 scripts/play/serve_kiosk.py "$$program" && \
   python3 scripts/play/serve_hostile.py "$$program" && \
   python3 scripts/play/serve_many.py --terminals 100 --seconds 3 --latest 100 "$$program" && \
-  python3 scripts/play/serve_door.py "$$program" && python3 scripts/play/monitoring.py "$$program" && \
+  python3 scripts/play/serve_door.py "$$program" && python3 scripts/play/desk_hour.py "$$program" && \
+  python3 scripts/play/monitoring.py "$$program" && \
   python3 scripts/play/cluster.py && \
   python3 scripts/play/serve_crash.py --rounds $(ROUNDS) "$$program" && \
   python3 scripts/play/carry_rows.py "$$program" && \
@@ -81,6 +85,13 @@ play: SCRIPTS = 200
 play:
 	@folder=$$(mktemp -d) && trap 'rm -rf "$$folder"' EXIT && program=$$(python3 scripts/unproved.py "$$folder") && \
 	  $(PLAYED)
+
+# The instructions that a message takes beside those that are kept, at a program of replay alone, built without proofs:
+# it fails where a row takes 2 % more. Nothing is proved by this. What to do about it says docs/speed.md.
+measure:
+	@folder=$$(mktemp -d) && trap 'rm -rf "$$folder"' EXIT && \
+	  python3 scripts/measure/optimised.py --replay "$$folder/replay" && \
+	  python3 scripts/measure/instructions.py "$$folder/replay" --most 2
 
 # Stored messages through four connections of holddesk serve, as make run has built it, and the kiosks of the documents;
 # the replies are compared.
@@ -148,11 +159,17 @@ terminals:
 	@python3 scripts/play/serve_many.py
 
 # How fast holddesk serve, as make run has built it, answers beside a server that only echoes: four minutes. Needs rustc
-# and Python 3. LOAD has other words for hd_load compare (bench/out/hd_load --help).
+# and Python 3. LOAD has other words for hd_load compare (bench/out/hd_load --help). With SYNC=5 it is how fast it answers
+# with a journal's file each of whose syncs takes 5 ms longer, with 1 to 64 connections: half a minute.
 LOAD =
+SYNC =
 LIBRARIES = bench/out/demonstration.catalogue bench/out/large.catalogue
 load: bench/out/hd_load $(LIBRARIES)
+ifdef SYNC
+	@python3 scripts/measure/measure_sync.py --sync $(SYNC)
+else
 	@for library in $(LIBRARIES); do bench/out/hd_load compare --catalogue $$library $(LOAD) || exit 1; done
+endif
 
 bench/out/hd_load: $(wildcard bench/*.rs)
 	@mkdir -p bench/out
@@ -199,5 +216,5 @@ test:
 	@python3 scripts/wrong_bodies --self-test
 	@python3 scripts/gate.py $(ANEW) --verdict $(VERDICT)
 	@program=$(CURDIR)/$(PROGRAM) && $(PLAYED) && python3 scripts/play/carry_stops.py "$$program" && \
-	  python3 scripts/play/faults.py "$$program"
+	  python3 scripts/play/faults.py "$$program" && python3 scripts/play/serve_waits.py "$$program"
 	@cat $(VERDICT)

@@ -84,6 +84,7 @@ def packed(folder, name, seconds):
             entry.uid = entry.gid = 0
             entry.uname = entry.gname = "root"
             entry.mtime = seconds
+            entry.mode = 0o755 if entry.mode & 0o100 else 0o644  # whatever the umask is
             with open(os.path.join(folder, path), "rb") as file:
                 package.addfile(entry, file)
     return gzip.compress(tar.getvalue(), mtime=seconds)

@@ -131,7 +131,8 @@ def compare_quiet(program, folder):
             words = serve_words(program, CATALOGUE, 1, "--door", other)
             words[words.index("--listen") + 1] = address
             done = subprocess.run(words, capture_output=True, text=True, timeout=SECONDS, check=False)
-            wanted = rf'event=cannot_listen address="{re.escape(address)}" why="{why}"\ncannot listen\n'
+            wanted = (r"in memory: a stop loses everything\n"
+                      rf'event=cannot_listen address="{re.escape(address)}" why="{why}"\ncannot listen\n')
             if done.returncode != 1 or done.stdout or not re.fullmatch(wanted, done.stderr) or os.path.exists(other):
                 raise Trouble(f"at {address} a server ends with {done.returncode} and says {done.stderr!r}")
         refused = {server.path: f"a server listens at {server.path}\n", CATALOGUE: f"the file {CATALOGUE} is no socket\n"}

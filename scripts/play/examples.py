@@ -351,7 +351,7 @@ def play_day(stage, command):
 def looked_at(stage):
     """A server with a door, which has had a day."""
     door = stage.place(DOOR)
-    with Server(stage.program, CATALOGUE, 1, "--door", door) as server:
+    with Server(stage.program, CATALOGUE, 1, "--door", door, "--door-lines") as server:
         with connect(server.port) as connection:
             for message in SEEN:
                 ask(connection, message)

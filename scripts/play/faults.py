@@ -35,9 +35,9 @@ import tempfile
 sys.path.append(os.path.dirname(sys.path[0]))  # scripts/
 
 from door import Seen, stop
-from kept import said_by_rt
+from interposed import library_of
 from rows import NOW, PATIENCE, Row
-from server import CATALOGUE, SECONDS, TOP, Trouble, ask, connect, parser_of, reported
+from server import CATALOGUE, SECONDS, Trouble, ask, connect, parser_of, reported
 
 MEMORY, READS, WRITES = KINDS = range(3)  # as in faulty.c
 FAULT = struct.Struct("4q")
@@ -57,14 +57,11 @@ class Faults:
     """What fails in the programs that are started from now on, and how many calls they have made."""
 
     def __init__(self, folder):
-        library, path = os.path.join(folder, "faulty.so"), os.path.join(folder, "faults")
-        clang = os.path.join(os.path.dirname(said_by_rt("doc")), "toolchain", "bin", "clang")
-        subprocess.run([clang, "-O1", "-shared", "-fPIC", "-nostdlib", "-fuse-ld=lld", "-o", library,
-                        os.path.join(TOP, "scripts", "play", "faulty.c")], check=True)
+        path = os.path.join(folder, "faults")
         with open(path, "w+b") as file:
             file.truncate(len(KINDS) * FAULT.size)
             self.shared = mmap.mmap(file.fileno(), len(KINDS) * FAULT.size)
-        os.environ.update(LD_PRELOAD=library, FAULTS=path)
+        os.environ.update(LD_PRELOAD=library_of("faulty", folder), FAULTS=path)
         self.passed = [0] * len(KINDS)
 
     def set(self, kind, passed=0, times=1, error=errno.EIO, most=0):

@@ -1,9 +1,9 @@
 /* Calls of the C library that fail where a script wants them to.
  *
- * scripts/faults.py compiles this by the kit's clang, and has it loaded before a program that it starts. The program and
- * the script share a file, which the variable FAULTS names: there the script says which calls are to fail, also while
- * the program runs. Counted are requests for memory, reads, and writes, each by itself; reads and writes of files on a
- * disk, and of standard error, are neither counted nor made to fail. No header is used: the kit has none. */
+ * scripts/interposed.py compiles this by the kit's clang. scripts/play/faults.py has it loaded before the programs that it
+ * starts, and shares a file with them, which the variable FAULTS names: there the script says which calls are to fail,
+ * also while a program runs. Counted are requests for memory, reads, and writes, each by itself; reads and writes of
+ * files on a disk, and of standard error, are neither counted nor made to fail. No header is used: the kit has none. */
 
 typedef __SIZE_TYPE__ size_t;
 typedef __PTRDIFF_TYPE__ ssize_t;

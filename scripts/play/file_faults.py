@@ -24,6 +24,7 @@ but Python 3. Status 0: all is as it is stored.
 import contextlib
 import hashlib
 import os
+import re
 import resource
 import shutil
 import sqlite3
@@ -78,9 +79,13 @@ def told(program, option, lines, folder):
 
 
 def play(program, option, name, lines):
-    """Has the program read the file of a row, and compares what it tells."""
+    """Has the program read the file of a row, and compares what it tells. What check says of each line of a file, behind
+    its first fault, begins with the file's path and the line, and isn't stored."""
     with tempfile.TemporaryDirectory() as folder:
         status, printed, said = told(program, option, lines[">"], folder)
+        line = re.compile(re.escape(os.path.join(folder, option)) + r":\d+: [A-Za-z].*\n")
+        first, *more = said.splitlines(True) or [""]
+        said = first + "".join(it for it in more if option == "begin" or not line.fullmatch(it))
     wanted = (1, "".join(f"{fault}\n" for fault in lines["!"])) if lines["!"] else (0, "")
     if (status, said) != wanted:
         raise Trouble(f"{option} {name}: it ends with {status} and says {said!r}, wanted {wanted}")

@@ -45,14 +45,14 @@ NO_NAME = "not 1 to 60 printable bytes, none of them a bar"
 
 # A sheet, a line of it, what stands there in its place, and what is said.
 FAULTS = [
-    ("copies", 3, "ta,a2,nroth", "copies.csv:3: branch: 'nroth' is no branch of branches.csv"),
+    ("copies", 3, "ta,a2,nroth", "copies.csv:3: branch: 'nroth' is no branch of branches.csv; did you mean 'north'?"),
     ("copies", 5, "tc,b1,north", "copies.csv:5: title: 'tc' is no title of titles.csv"),
     ("copies", 4, "ta,a1,south", "copies.csv:4: copy: 'a1' stands in an earlier row"),
     ("copies", 4, "ta,a|3,south", f"copies.csv:4: copy: {NO_NAME}"),
     ("copies", 4, 'ta,"a\n3",south', f"copies.csv:4: copy: {NO_NAME}"),
     ("copies", 4, "ta,,south", f"copies.csv:4: copy: nothing, and {NO_NAME}"),
     ("copies", 1, "title,copy,home", "copies.csv:1: no column 'branch'"),
-    ("copies", 1, "ta,a1,north", "copies.csv:1: no column 'copy'"),
+    ("copies", 1, "ta,a1,north", "\n".join(f"copies.csv:1: no column '{name}'" for name in ("copy", "title", "branch"))),
     ("terminals", 2, "t1,pw,west,", "terminals.csv:2: branch: 'west' is no branch of branches.csv"),
     ("terminals", 3, "t1,pw,south,", "terminals.csv:3: terminal: 't1' stands in an earlier row"),
     ("patrons", 2, "p1,5.0,Ely", "patrons.csv:2: loan limit: '5.0' is not a number from 0 to 999"),
@@ -62,7 +62,7 @@ FAULTS = [
     ("titles", 3, "tb,,14,0,X", "titles.csv:3: priority: 'X' is not L or N"),
     ("titles", 3, "tb,,3651,0,", "titles.csv:3: loan days: '3651' is not a number from 0 to 3650"),
     ("titles", 1, "name,author,loan days,renewals,priority", "titles.csv:1: no column 'title'"),
-    ("titles", 2, "t\xe4,,21,1,L", "titles.csv:2: not UTF-8"),
+    ("titles", 2, "t\xe4,,21,1,L", "titles.csv:2: not UTF-8; save it as CSV UTF-8, or give --from latin1"),
     ("titles", 3, 'tb,"Joyce, James,14,0,', "titles.csv:3: a quote isn't closed"),
     ("titles", 2, 'ta,"Woolf, Virginia,21,1,L', "titles.csv:2: a quote isn't closed"),
     ("patrons", 4, 'p3,1,"', "patrons.csv:4: a quote isn't closed"),

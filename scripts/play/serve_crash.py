@@ -4,10 +4,10 @@
     python3 scripts/play/serve_crash.py [--rounds N] [PROGRAM]
 
 PROGRAM is crates/holddesk/out/holddesk where it isn't given; N is 50. In each round the server is started on the same
-journal's file, and four terminals send commands and cancellations at random, until it is killed at a random moment.
-Then a copy of the file is read by the sqlite3 of Python: its integrity check has to pass, and each terminal's rows have
-to be what it was answered, in that order, with at most one more, whose reply it was waiting for. Then holddesk journal
-check takes all turns again, and what it tells has to be what the views of holddesk journal views count; these are
+journal's file, and 1, 16 or 64 terminals send commands and cancellations at random, until it is killed at a random
+moment. Then a copy of the file is read by the sqlite3 of Python: its integrity check has to pass, and each terminal's
+rows have to be what it was answered, in that order, with at most one more, whose reply it was waiting for. So a stop
+leaves at most one turn a terminal that nobody was answered. Then holddesk journal check takes all turns again, and what it tells has to be what the views of holddesk journal views count; these are
 tried with a file of 20,000 turns, too. At last come files that are refused (one that another server has open, one that
 isn't there, one without its log, one of something else, one of another catalogue), and a disk that is full: that needs
 the right to mount one, and is told as skipped where there is none.
@@ -34,12 +34,13 @@ from make.make_library import InTurn, branch, copy, password, patron, terminal, 
 from server import SECONDS, Server, Trouble, ask, begun, connect, parser_of, reported, said_by, serve_words
 
 ROUNDS = 50
-TERMINALS = 4
+COUNTS = 1, 16, 64  # terminals, in one round after the other
+TERMINALS = 4  # of the other tests
 MANY = 20_000  # turns that the views are tried with
 SOON = 10  # seconds that they may take: 0.5 are usual
 SEED = 1
 DATE = "20260301    100000"
-LIBRARY = InTurn(titles=2, copies=8, patrons=8, branches=2, terminals=TERMINALS, is_even=True, loan_days=(21,),
+LIBRARY = InTurn(titles=2, copies=8, patrons=8, branches=2, terminals=max(COUNTS), is_even=True, loan_days=(21,),
                  renewals=(1,), loan_limits=(5,))
 GROWN = dataclasses.replace(LIBRARY, patrons=9)
 
@@ -160,9 +161,9 @@ def compare_stops(program, catalogue, folder, rounds):
     views = subprocess.run([program, "journal", "views"], capture_output=True, text=True, timeout=SECONDS, check=True)
     journal, turns = begun(program, catalogue, os.path.join(folder, "journal")), 0
     for number in range(rounds):
-        draw = random.Random(SEED + number)
-        with Server(program, catalogue, TERMINALS, "--journal", journal) as server:
-            terminals = [Terminal(at + 1, server.port, random.Random(draw.random())) for at in range(TERMINALS)]
+        draw, count = random.Random(SEED + number), COUNTS[number % len(COUNTS)]
+        with Server(program, catalogue, count, "--journal", journal) as server:
+            terminals = [Terminal(at + 1, server.port, random.Random(draw.random())) for at in range(count)]
             kill_after(0.02 + draw.random() / 2, server, terminals)
         turns = compare_rows(opened_copy(journal, folder), terminals, turns)
         compare_check(program, catalogue, journal, folder, views.stdout, turns)

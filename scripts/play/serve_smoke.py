@@ -65,7 +65,8 @@ def compare_serve(program, messages, replies, is_cut):
     with Server(program, CATALOGUE, SESSIONS, "--connections", str(SESSIONS), "--idle", str(SECONDS)) as server:
         second = subprocess.run(serve_words(program, CATALOGUE, 1, port=server.port), capture_output=True, text=True,
                                 timeout=SECONDS, check=False)
-        wanted = rf'event=cannot_listen address="{re.escape(LOOPBACK)}:{server.port}" why=".*in use.*"\ncannot listen\n'
+        wanted = (r"in memory: a stop loses everything\n"
+                  rf'event=cannot_listen address="{re.escape(LOOPBACK)}:{server.port}" why=".*in use.*"\ncannot listen\n')
         if (second.returncode, second.stdout) != (1, "") or not re.fullmatch(wanted, second.stderr):
             raise Trouble(f"at a port in use a second server ends with {second.returncode} and says {second.stderr!r}")
         play({number: connect(server.port) for number in range(1, SESSIONS + 1)}, messages, replies, is_cut)

@@ -1,13 +1,16 @@
 //! What `check` tells of a library.
 
 use crate::fault::CatalogueCommandFault;
+use crate::listing::{Listing, MOST_LISTED};
 use crate::mending::{tell_faults, tell_warnings};
+use crate::opening_faults::{list_opening_faults, names_on_line};
+use crate::patrons_file::list_patrons_faults;
 use crate::told::Told;
 use hd_catalogue::{Catalogue, TitleNo};
 use hd_command_line::{Check, LibraryFiles};
 use hd_desk::Desk;
 use hd_folder::Paths;
-use hd_library::{Library, read_file};
+use hd_library::{Library, SetupFault, read_file};
 use hd_terminal_output::Away;
 use std::alloc::{AllocError, Global};
 use std::io::{IsTerminal, Write};
@@ -33,17 +36,17 @@ fn check_files(
 ) -> Result<(), CatalogueCommandFault> {
     let (version, library) = library_of(rt, files.catalogue)?;
     let library = match files.opening {
-        Some(path) => library.opened(rt, path)?,
+        Some(path) => opened(rt, library, path)?,
         None => library,
     };
     let library = library.and_joined(rt, files, None)?;
     let report = report_of(rt.alloc(), version, &library.catalogue)?;
     let told = match patrons {
-        Some(path) => Some(Told::read(rt, path, &library.catalogue)?),
+        Some(path) => Some(told_of(rt, path, &library.catalogue)?),
         None => None,
     };
     if files.opening.is_some() || !library.catalogue.opening().is_empty() {
-        check_opening(rt, library, report.as_slice())?;
+        check_opening(rt, library, files.opening, report.as_slice())?;
     } else {
         rt.stdout().write_all(report.as_slice())?;
     }
@@ -51,6 +54,58 @@ fn check_files(
         told.print(rt)?;
     }
     Ok(())
+}
+
+/// The library whose journal begins as the opening file at a path says. Of one that is refused the first fault is
+/// told, and then what is wrong with each of its lines.
+///
+/// # Errors
+/// The file can't be read, or is refused.
+fn opened(
+    rt: &HostRuntime,
+    library: Library,
+    path: &str,
+) -> Result<Library, CatalogueCommandFault> {
+    let alloc = rt.alloc();
+    let file = read_file(rt, "opening", path)?;
+    let bytes = file.as_slice();
+    let listing = match hd_opening::read(alloc, &library.catalogue, &library.digest, bytes) {
+        Ok(_) => return Ok(library.opened_by(rt, bytes)?),
+        Err(fault) if fault.line == 1 => return Err(CatalogueCommandFault::from(SetupFault::from(
+            fault,
+        ))),
+        Err(fault) => {
+            let mut listing = Listing::new(alloc, MOST_LISTED.saturating_add(1));
+            listing.add(format!(in alloc; "{fault}")?)?;
+            listing
+        }
+    };
+    let catalogue = &library.catalogue;
+    let listing = list_opening_faults(alloc, catalogue, &library.digest, path, bytes, listing)?;
+    Err(CatalogueCommandFault::Sheets(listing.text(alloc)?))
+}
+
+/// What the patrons' file at a path tells of the patrons of a catalogue. Of one that is refused the first fault is
+/// told, and then what is wrong with each of its lines, without any of its texts.
+///
+/// # Errors
+/// It can't be read, or is refused.
+fn told_of(
+    rt: &HostRuntime,
+    path: &str,
+    catalogue: &Catalogue,
+) -> Result<Told, CatalogueCommandFault> {
+    let alloc = rt.alloc();
+    match Told::read(rt, path, catalogue) {
+        Err(CatalogueCommandFault::Setup(SetupFault::Patrons(fault))) if fault.line > 1 => {
+            let mut listing = Listing::new(alloc, MOST_LISTED.saturating_add(1));
+            listing.add(format!(in alloc; "{fault}")?)?;
+            let file = read_file(rt, "patrons", path)?;
+            let listing = list_patrons_faults(alloc, catalogue, path, file.as_slice(), listing)?;
+            Err(CatalogueCommandFault::Sheets(listing.text(alloc)?))
+        }
+        told => told,
+    }
 }
 
 /// The version of a catalogue file, and its library. A terminal is told before a long file is read, and
@@ -75,13 +130,20 @@ fn library_of(rt: &HostRuntime, path: &str) -> Result<(u8, Library), CatalogueCo
 
 /// Tells what a catalogue file says, and then what the opening file does: the last number, and how many
 /// loans, copies kept or on their way and holds the desk has that the journal begins with.
+///
+/// # Errors
+/// The desk refuses a row, of which the names are told; the output can't be written; out of memory.
 fn check_opening(
     rt: &HostRuntime,
     library: Library,
+    path: Option<&str>,
     report: &[u8],
 ) -> Result<(), CatalogueCommandFault> {
     let last = library.catalogue.last_before();
-    let journal = library.journal(rt)?;
+    let journal = match library.journal(rt) {
+        Ok(journal) => journal,
+        Err(fault) => return Err(with_names(rt, path, fault)?),
+    };
     let away = Away::of(journal.desk());
     rt.stdout().write_all(report)?;
     println!(rt;
@@ -93,6 +155,26 @@ fn check_opening(
         holds_of(journal.desk())
     )?;
     Ok(())
+}
+
+/// The fault of a row that the desk refuses, with the names on its line of the opening file at a path.
+///
+/// # Errors
+/// The file can't be read; out of memory.
+fn with_names(
+    rt: &HostRuntime,
+    path: Option<&str>,
+    fault: SetupFault,
+) -> Result<CatalogueCommandFault, CatalogueCommandFault> {
+    let (Some(path), SetupFault::DoubleRow { line } | SetupFault::RowWithoutHold { line }) = (
+        path, &fault,
+    ) else {
+        return Ok(CatalogueCommandFault::from(fault));
+    };
+    let file = read_file(rt, "opening", path)?;
+    let names = names_on_line(rt.alloc(), file.as_slice(), *line)?;
+    let said = format!(in rt.alloc(); "{fault}\n{path}:{line}: {names}")?;
+    Ok(CatalogueCommandFault::Sheets(said))
 }
 
 /// How many holds a desk has.

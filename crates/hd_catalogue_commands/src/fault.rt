@@ -15,7 +15,7 @@ pub enum CatalogueCommandFault {
     /// A folder, or a file in it, isn't as a command needs it.
     #[error("{0}")]
     Folder(FolderFault),
-    /// Sheets make no catalogue file.
+    /// Sheets make no catalogue file, or no opening: their faults, a line for each.
     #[error("{0}")]
     Sheets(String),
     /// What the command prints can't be written.

@@ -3,8 +3,15 @@
 
 mod checking;
 mod fault;
+mod hints;
 mod importing;
+mod listing;
 mod mending;
+mod opening;
+mod opening_faults;
+mod opening_sheets;
+mod patrons_file;
+mod sheet_faults;
 mod told;
 
 pub use crate::checking::check;

@@ -2,9 +2,12 @@
 
 use crate::fault::CatalogueCommandFault;
 use hd_catalogue::Catalogue;
-use hd_diagnosis::{diagnose, warn};
+use hd_diagnosis::{MOST_TOLD, diagnose, warn};
 use std::os::unix::fs::PermissionsExt;
 use std::{fs, io};
+
+/// The most faults, and the most warnings, of a catalogue file that are printed.
+const MOST_PRINTED: usize = 20;
 
 /// The bit of a file's mode that lets everyone read it.
 const OTHERS_READ: u32 = 0o004;
@@ -19,9 +22,22 @@ pub(crate) fn tell_faults(
     file: &[u8],
 ) -> Result<(), CatalogueCommandFault> {
     let told = diagnose(rt.alloc(), file)?;
-    for index in 0..told.len() {
+    for index in 0..told.len().min(MOST_PRINTED) {
         let fault = &told[index];
         eprintln!(rt; "{path}:{fault}")?;
+    }
+    tell_more(rt, told.len())
+}
+
+/// Tells how many more faults or warnings there are than were printed.
+///
+/// # Errors
+/// Standard error can't be written.
+fn tell_more(rt: &HostRuntime, count: usize) -> Result<(), CatalogueCommandFault> {
+    if count > MOST_PRINTED {
+        let more = count - MOST_PRINTED;
+        let least = if count >= MOST_TOLD { "at least " } else { "" };
+        eprintln!(rt; "and {least}{more} more")?;
     }
     Ok(())
 }
@@ -37,10 +53,11 @@ pub(crate) fn tell_warnings(
     catalogue: &Catalogue,
 ) -> Result<(), CatalogueCommandFault> {
     let told = warn(rt.alloc(), file)?;
-    for index in 0..told.len() {
+    for index in 0..told.len().min(MOST_PRINTED) {
         let warning = &told[index];
         eprintln!(rt; "{path}:{warning}")?;
     }
+    tell_more(rt, told.len())?;
     if catalogue.branches() == 0 {
         eprintln!(rt; "{path}: warning: it has no branches")?;
     }

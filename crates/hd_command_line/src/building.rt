@@ -1,6 +1,8 @@
 //! The program's commands, put together from their words.
 
 use crate::commands::{below_journal, carry_and_import, check_and_replay, serve};
+use crate::desk_texts::{DESK, DESK_ABOUT};
+use crate::desk_words::{DESK_OPTIONS, below_desk};
 use crate::door_commands::status_and_stop;
 use crate::journal_texts::JOURNAL_ABOUT;
 use crate::list_commands::Shower;
@@ -19,7 +21,15 @@ pub(crate) fn program<'a>(alloc: Global) -> Result<Command<'a>, AllocError> {
     let command = with(alloc, command, carry_and_import())?;
     let command = command.subcommand(journal(alloc)?)?;
     let command = command.subcommand(show(alloc, Shower::Server)?)?;
+    let command = command.subcommand(desk(alloc)?)?;
     with(alloc, command, status_and_stop())
+}
+
+/// `desk`, with the commands below it.
+fn desk<'a>(alloc: Global) -> Result<Command<'a>, AllocError> {
+    let command = above(Command::new(alloc, "desk"), DESK_ABOUT).long_about(DESK);
+    let command = command.args(options_of(alloc, &DESK_OPTIONS)?)?;
+    with(alloc, command, below_desk())
 }
 
 /// `journal`, with the commands below it.
@@ -127,6 +137,7 @@ fn formed<'a>(option: Arg<'a>, words: &OptionWords) -> Arg<'a> {
     match words.form {
         Form::Named => option.long(words.name),
         Form::Placed => option,
+        Form::Trailing => option.num_args(1..).trailing_var_arg(true),
     }
 }
 

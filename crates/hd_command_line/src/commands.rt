@@ -2,9 +2,10 @@
 
 use crate::carry_texts::{CARRY, CARRY_ABOUT, CARRY_EXAMPLE};
 use crate::import_options::{
-    COMMANDS_LIMIT, FROM, INSTITUTION, INTO_CATALOGUE, LOAN_DAYS, LOAN_LIMIT, OFFSET, RENEWALS,
-    SEPARATOR, SHEET_OF_BRANCHES, SHEET_OF_COPIES, SHEET_OF_PATRONS, SHEET_OF_TERMINALS,
-    SHEET_OF_TITLES,
+    CATALOGUE_OF_OPENING, COMMANDS_LIMIT, FROM, INSTITUTION, INTO_CATALOGUE, INTO_OPENING,
+    INTO_PATRONS, LOAN_DAYS, LOAN_LIMIT, OFFSET, RENEWALS, SEPARATOR, SHEET_OF_BRANCHES,
+    SHEET_OF_COPIES, SHEET_OF_HOLDS, SHEET_OF_LOANS, SHEET_OF_PATRONS, SHEET_OF_SHELF,
+    SHEET_OF_TERMINALS, SHEET_OF_TITLES,
 };
 use crate::import_texts::{IMPORT, IMPORT_ABOUT, IMPORT_EXAMPLE};
 use crate::join_texts::{JOURNAL_JOIN, JOURNAL_JOIN_ABOUT, JOURNAL_JOIN_EXAMPLE};
@@ -14,10 +15,10 @@ use crate::journal_texts::{
 };
 use crate::options::{
     ACCEPT_CATALOGUE, ACCEPT_CATALOGUE_OF_KEPT, CATALOGUE_ALWAYS, CATALOGUE_OR_FOLDER,
-    CATALOGUE_THAT_JOINS, CONNECTIONS, DAYS_OFF, DOOR, FOLDER, FOLDER_ALWAYS, IDLE, INTO, JOURNAL,
-    JOURNAL_OR_FOLDER, KEEP_USED, LIBRARY, LISTEN, LOG, MOST_GONE, NOW, OPENING, PATRON_MESSAGES,
-    PATRONS, PATRONS_OF_KIOSKS, REPLIES_END, SORTER_FIELDS, TERMINALS_AT_ONCE, TO, WARY, WORKERS,
-    WRITE_OFF, ZONE,
+    CATALOGUE_THAT_JOINS, CONNECTIONS, DAYS_OFF, DOOR, DOOR_LINES, FOLDER, FOLDER_ALWAYS, IDLE,
+    INTO, JOURNAL, JOURNAL_OR_FOLDER, KEEP_USED, LIBRARY, LISTEN, LOG, MOST_GONE, NOW, OPENING,
+    PATRON_MESSAGES, PATRONS, PATRONS_OF_KIOSKS, REPLIES_END, SORTER_FIELDS, TERMINALS_AT_ONCE, TO,
+    WARY, WORKERS, WRITE_OFF, ZONE,
 };
 use crate::texts::{
     CHECK, CHECK_ABOUT, CHECK_EXAMPLE, REPLAY, REPLAY_ABOUT, REPLAY_EXAMPLE, SERVE, SERVE_ABOUT,
@@ -53,7 +54,7 @@ static CHECK_AND_REPLAY: [CommandWords; 2] = [
         long_about: CHECK,
         example: CHECK_EXAMPLE,
         options: &[CATALOGUE_OR_FOLDER, OPENING, LIBRARY, PATRONS],
-        groups: &[],
+        groups: &[LIBRARY_OR_FILES],
     },
     CommandWords {
         name: "replay",
@@ -96,10 +97,11 @@ static SERVE_ALONE: [CommandWords; 1] = [CommandWords {
         REPLIES_END,
         ZONE,
         DOOR,
+        DOOR_LINES,
         LOG,
         DAYS_OFF,
     ],
-    groups: &[SERVED, KEPT],
+    groups: &[LIBRARY_OR_FILES, SERVED, KEPT],
 }];
 
 /// The words of `carry` and `import`.
@@ -120,7 +122,7 @@ static CARRY_AND_IMPORT: [CommandWords; 2] = [
             KEEP_USED,
             MOST_GONE,
         ],
-        groups: &[],
+        groups: &[LIBRARY_OR_FILES],
     },
     CommandWords {
         name: "import",
@@ -142,6 +144,12 @@ static CARRY_AND_IMPORT: [CommandWords; 2] = [
             RENEWALS,
             FROM,
             SEPARATOR,
+            SHEET_OF_LOANS,
+            SHEET_OF_HOLDS,
+            SHEET_OF_SHELF,
+            INTO_OPENING,
+            CATALOGUE_OF_OPENING,
+            INTO_PATRONS,
         ],
         groups: &[],
     },
@@ -169,7 +177,7 @@ static BELOW_JOURNAL: [CommandWords; 4] = [
             JOURNAL_OR_FOLDER,
             ACCEPT_CATALOGUE,
         ],
-        groups: &[],
+        groups: &[LIBRARY_OR_FILES],
     },
     CommandWords {
         name: "join",
@@ -188,6 +196,13 @@ static BELOW_JOURNAL: [CommandWords; 4] = [
         groups: &[],
     },
 ];
+
+/// The options that say where a library is.
+const LIBRARY_OR_FILES: GroupWords = GroupWords {
+    name: "where",
+    is_required: true,
+    options: &["catalogue", "library"],
+};
 
 /// The options of how many connections are served at once, of which there has to be one.
 const SERVED: GroupWords = GroupWords {

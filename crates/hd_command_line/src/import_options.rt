@@ -6,7 +6,62 @@ use crate::words::{Choice, Number, OptionWords, Value};
 /// A file of the spreadsheet. Those below say which it is.
 const SHEET: OptionWords = OptionWords {
     value: Value::Text("FILE"),
-    is_required: true,
+    unless: &["catalogue"],
+    conflicts: &["catalogue"],
+    ..PLAIN
+};
+
+/// A file of what the old system had. Those below say which it is.
+const OLD_SHEET: OptionWords = OptionWords {
+    value: Value::Text("FILE"),
+    only_with: &["into-opening"],
+    ..PLAIN
+};
+
+/// The sheet of loans.
+pub(crate) const SHEET_OF_LOANS: OptionWords = OptionWords {
+    name: "loans",
+    help: "The CSV file of the loans that the old system had",
+    ..OLD_SHEET
+};
+
+/// The sheet of holds.
+pub(crate) const SHEET_OF_HOLDS: OptionWords = OptionWords {
+    name: "holds",
+    help: "The CSV file of its holds",
+    ..OLD_SHEET
+};
+
+/// The sheet of hold shelves.
+pub(crate) const SHEET_OF_SHELF: OptionWords = OptionWords {
+    name: "shelf",
+    help: "The CSV file of the copies on its hold shelves",
+    ..OLD_SHEET
+};
+
+/// The opening file to write.
+pub(crate) const INTO_OPENING: OptionWords = OptionWords {
+    name: "into-opening",
+    value: Value::Text("FILE"),
+    help: "The opening file to write, with the old loans and holds; an existing one is replaced",
+    ..PLAIN
+};
+
+/// The catalogue that an opening is made for, where none is written.
+pub(crate) const CATALOGUE_OF_OPENING: OptionWords = OptionWords {
+    name: "catalogue",
+    value: Value::Text("FILE"),
+    help: "A catalogue file in place of the five sheets: the opening is for this one",
+    only_with: &["into-opening"],
+    ..PLAIN
+};
+
+/// The patrons' file to write.
+pub(crate) const INTO_PATRONS: OptionWords = OptionWords {
+    name: "into-patrons",
+    value: Value::Text("FILE"),
+    help: "The patrons' file to write, from the columns password, language and name of --patrons",
+    conflicts: &["catalogue"],
     ..PLAIN
 };
 
@@ -50,7 +105,8 @@ pub(crate) const INTO_CATALOGUE: OptionWords = OptionWords {
     name: "into",
     value: Value::Text("FILE"),
     help: "The catalogue file to write; an existing one is replaced",
-    is_required: true,
+    unless: &["catalogue"],
+    conflicts: &["catalogue"],
     ..PLAIN
 };
 
@@ -59,7 +115,8 @@ pub(crate) const INSTITUTION: OptionWords = OptionWords {
     name: "institution",
     value: Value::Text("NAME"),
     help: "The institution that replies carry in AO",
-    is_required: true,
+    unless: &["catalogue"],
+    conflicts: &["catalogue"],
     ..PLAIN
 };
 
@@ -73,7 +130,8 @@ pub(crate) const OFFSET: OptionWords = OptionWords {
         defaults: &[],
     }),
     help: "How many minutes local time is ahead of universal time, -1439 to 1439",
-    is_required: true,
+    unless: &["catalogue"],
+    conflicts: &["catalogue"],
     ..PLAIN
 };
 

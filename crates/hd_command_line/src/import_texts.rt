@@ -21,8 +21,20 @@ quote that isn't closed is a fault. Blanks around a value are dropped, and so ar
 separator is that of --separator, or else what the first line has: a tab, else a semicolon, else a comma.
 Lines may end in LF or CR LF. A byte order mark before UTF-8 is passed over.
 
+What another system had when it was left becomes an opening, with --into-opening:
+
+  --loans      copy, patron, due, renewals
+  --holds      patron, title or copy, pickup, placed on, expires
+  --shelf      copy, patron, place
+
+A day is written as 2026-11-25, 25.11.2026 or 20261125. Holds get their order from the days on which they were
+placed, and on one day from their order in the file. `journal begin --opening` then begins a journal with it.
+
+--into-patrons writes a patrons' file, from the columns password, language and name of the sheet of patrons.
+
 The catalogue is of version 2. `import` writes it beside its path, reads it back as `check` does, and renames
-it. It replaces the file that was there. After a fault that file stays as it was.";
+it. It replaces the file that was there. After a fault that file stays as it was. `import` goes on after a fault:
+it reports up to 100, a line each, and how many more there are.";
 
 /// An example of `import`, and its exit statuses.
 pub(crate) const IMPORT_EXAMPLE: &str = "Example:

@@ -4,6 +4,9 @@
 mod building;
 mod carry_texts;
 mod commands;
+mod desk_parsing;
+mod desk_texts;
+mod desk_words;
 mod door_commands;
 mod door_options;
 mod door_parsing;
@@ -23,8 +26,8 @@ mod words;
 
 pub use crate::journal_texts::VIEWS;
 pub use crate::orders::{
-    Beyond, Carry, Check, Extended, Import, JournalBegin, JournalCheck, JournalJoin, JournalShow,
-    JournalViews, Kiosks, LibraryFiles, ListOrder, Log, Order, Place, Replay, Serve, Show, Status,
-    Stop,
+    Beyond, Carry, Check, Deed, Desk, Extended, Import, ImportedOpening, JournalBegin,
+    JournalCheck, JournalJoin, JournalShow, JournalViews, Kiosks, LibraryFiles, ListOrder, Log,
+    Order, Place, Replay, Serve, Show, Status, Stop,
 };
 pub use crate::parsing::parse;

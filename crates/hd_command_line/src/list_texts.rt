@@ -154,7 +154,7 @@ These are the copies on loan whose day is earlier, in the order of the catalogue
   copy  title  patron  due         renewals
   a1    ta     p1      2026-03-22  0
 
-Exit status: 0 if all is well; 1 after a fault, printed as one line (`DAY is no day`, `no server listens at
+Exit status: 0 if all is well; 1 after a fault, printed as one line (`DAY is no day, as 2026-03-01`, `no server listens at
 PATH`, and others, which docs/faults.md has with what to do); 2 if the command line is refused.",
 };
 
@@ -170,7 +170,7 @@ order of its queue. Such a hold gets no copy. One that has a copy keeps it until
   title  patron  stamp  admits  only  pickup  until       copy
   tb     p3      3      any           south   2026-03-15  b1
 
-Exit status: 0 if all is well; 1 after a fault, printed as one line (`DAY is no day`, `no server listens at
+Exit status: 0 if all is well; 1 after a fault, printed as one line (`DAY is no day, as 2026-03-01`, `no server listens at
 PATH`, and others, which docs/faults.md has with what to do); 2 if the command line is refused.",
 };
 

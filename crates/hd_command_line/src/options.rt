@@ -28,11 +28,8 @@ pub(crate) const CATALOGUE_ALWAYS: OptionWords = OptionWords {
     ..CATALOGUE
 };
 
-/// The catalogue file, or else a folder.
-pub(crate) const CATALOGUE_OR_FOLDER: OptionWords = OptionWords {
-    unless: &["library"],
-    ..CATALOGUE
-};
+/// The catalogue file, of a command that takes a folder in its place.
+pub(crate) const CATALOGUE_OR_FOLDER: OptionWords = CATALOGUE;
 
 /// The catalogue file whose new names join a library.
 pub(crate) const CATALOGUE_THAT_JOINS: OptionWords = OptionWords {
@@ -133,6 +130,14 @@ pub(crate) const DOOR: OptionWords = OptionWords {
     name: "door",
     value: Value::Text("PATH"),
     help: "The Unix socket to make, by which people look at the server, and end it",
+    ..PLAIN
+};
+
+/// Whether lines are played that come by the door.
+pub(crate) const DOOR_LINES: OptionWords = OptionWords {
+    name: "door-lines",
+    help: "Play the lines that are posted at the door, as whichever terminal they name",
+    only_with: &["door"],
     ..PLAIN
 };
 

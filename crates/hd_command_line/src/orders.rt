@@ -27,6 +27,8 @@ pub enum Order<'a> {
     JournalViews(JournalViews<'a>),
     /// To show what is where, by a server that runs.
     Show(Show<'a>),
+    /// To do what a librarian does at a desk, by a server that runs.
+    Desk(Desk<'a>),
     /// To tell how a server stands.
     Status(Status<'a>),
     /// To end a server.
@@ -118,6 +120,8 @@ pub struct Serve<'a> {
     pub is_other_accepted: bool,
     /// The path of the door by which people look at the server, where there is to be one.
     pub door: Option<&'a str>,
+    /// Whether the lines that are posted at the door are played.
+    pub has_door_lines: bool,
     /// What is told while the server runs.
     pub log: Log,
     /// How many days a message may lie from the server's day before that is told, if it ever is.
@@ -166,6 +170,8 @@ pub struct Carry<'a> {
 /// What `import` is asked to do.
 #[derive(Clone, Copy)]
 pub struct Import<'a> {
+    /// The path of the catalogue file that an opening is for, where none is made of sheets.
+    pub catalogue: Option<&'a str>,
     /// The paths of the sheets: of branches,
     pub branches: &'a str,
     /// of terminals,
@@ -194,6 +200,23 @@ pub struct Import<'a> {
     pub is_latin1: bool,
     /// The byte between two values, where it isn't to be found.
     pub separator: Option<u8>,
+    /// The opening that is to be, where one is.
+    pub opening: Option<ImportedOpening<'a>>,
+    /// The path of the patrons' file that is to be, where one is.
+    pub into_patrons: Option<&'a str>,
+}
+
+/// Which opening `import` is asked to make.
+#[derive(Clone, Copy)]
+pub struct ImportedOpening<'a> {
+    /// The path of the opening file that is to be.
+    pub into: &'a str,
+    /// The paths of the sheets of the old system, where there are such: of loans,
+    pub loans: Option<&'a str>,
+    /// of holds,
+    pub holds: Option<&'a str>,
+    /// and of hold shelves.
+    pub shelf: Option<&'a str>,
 }
 
 /// What `journal begin` is asked to do.
@@ -260,6 +283,80 @@ pub struct Show<'a> {
     pub door: &'a str,
     /// The list that is to be shown.
     pub shown: ListOrder<'a>,
+}
+
+/// What `desk` is asked to do.
+#[derive(Clone, Copy)]
+pub struct Desk<'a> {
+    /// The path of the server's door.
+    pub door: &'a str,
+    /// The terminal as which it is done, where that is said.
+    pub terminal: Option<&'a str>,
+    /// What is done.
+    pub deed: Deed<'a>,
+    /// Whether what came of it is to be JSON.
+    pub is_json: bool,
+}
+
+/// What is done at a desk. Patrons, copies, titles and branches are named as in the catalogue.
+#[derive(Clone, Copy)]
+pub enum Deed<'a> {
+    /// A copy is lent.
+    Lend {
+        /// To this patron.
+        patron: &'a str,
+        /// The copy.
+        copy: &'a str,
+    },
+    /// A copy is returned.
+    Return {
+        /// The copy.
+        copy: &'a str,
+        /// At this branch, where that isn't the terminal's own.
+        branch: Option<&'a str>,
+    },
+    /// A loan is renewed.
+    Renew {
+        /// Of this patron.
+        patron: &'a str,
+        /// The copy.
+        copy: &'a str,
+    },
+    /// A hold is placed.
+    Hold {
+        /// For this patron.
+        patron: &'a str,
+        /// The title.
+        title: &'a str,
+        /// The branch where it is picked up, where that isn't the terminal's own.
+        pickup: Option<&'a str>,
+        /// The one copy that it admits, where it doesn't admit any.
+        copy: Option<&'a str>,
+        /// Its last day, if it has one.
+        until: Option<&'a str>,
+    },
+    /// A hold is ended.
+    Unhold {
+        /// Of this patron.
+        patron: &'a str,
+        /// The title.
+        title: &'a str,
+    },
+    /// A patron's loans and holds are asked for.
+    Account {
+        /// The patron.
+        patron: &'a str,
+    },
+    /// A command is cancelled.
+    Cancel {
+        /// Its number.
+        number: u64,
+    },
+    /// Lines are sent.
+    Send {
+        /// The lines, without their carriage returns.
+        lines: &'a [String],
+    },
 }
 
 /// What `status` is asked to do.

@@ -6,10 +6,11 @@ ghost use Rattle.hd_command_line.specs.Logs.{log_named};
 ghost use Rattle.std.specs.Str.{bytes_eq};
 
 use crate::building::program;
+use crate::desk_parsing::desk_of;
 use crate::door_parsing::{list_found, show_of, status_of, stop_of};
 use crate::orders::{
-    Beyond, Carry, Check, Extended, Import, JournalBegin, JournalCheck, JournalJoin, JournalShow,
-    JournalViews, Kiosks, LibraryFiles, Log, Order, Place, Replay, Serve,
+    Beyond, Carry, Check, Extended, Import, ImportedOpening, JournalBegin, JournalCheck,
+    JournalJoin, JournalShow, JournalViews, Kiosks, LibraryFiles, Log, Order, Place, Replay, Serve,
 };
 use clap::{ArgMatches, Error};
 use std::alloc::Global;
@@ -19,13 +20,14 @@ use std::alloc::Global;
 /// An error is a mistake in the words, or the text of a help that was asked for.
 pub fn parse<'a>(alloc: Global, words: &'a [String]) -> Result<Order<'a>, Error> {
     let matches = program(alloc)?.try_get_matches_from(words)?;
-    Ok(order_of(&matches))
+    Ok(order_of(&matches, words))
 }
 
 /// What the program is asked to do by what was found.
-fn order_of<'a>(matches: &ArgMatches<'a>) -> Order<'a> {
+fn order_of<'a>(matches: &ArgMatches<'a>, words: &'a [String]) -> Order<'a> {
     match matches.subcommand() {
         Some(("journal", found)) => journal_order_of(found),
+        Some(("desk", found)) => desk_of(found, words),
         Some((name, found)) => order_named(name, found),
         None => replay_of(matches),
     }
@@ -133,6 +135,7 @@ fn serve_of<'a>(found: &ArgMatches<'a>) -> Order<'a> {
         is_wary: found.get_flag("journal-wary"),
         is_other_accepted: found.get_flag("accept-catalogue"),
         door: found.get_str("door"),
+        has_door_lines: found.get_flag("door-lines"),
         log: log_of(found.get_str("log")),
         days_off: found.get_one::<u32>("days-off"),
         zone: found.get_str("zone"),
@@ -196,6 +199,7 @@ fn carry_of<'a>(found: &ArgMatches<'a>) -> Order<'a> {
 /// What `import` is asked to do by what was found.
 fn import_of<'a>(found: &ArgMatches<'a>) -> Order<'a> {
     Order::Import(Import {
+        catalogue: found.get_str("catalogue"),
         branches: text_of(found, "branches"),
         terminals: text_of(found, "terminals"),
         patrons: text_of(found, "patrons"),
@@ -210,6 +214,19 @@ fn import_of<'a>(found: &ArgMatches<'a>) -> Order<'a> {
         renewals: found.get_one::<u32>("renewals"),
         is_latin1: found.get_str("from") == Some("latin1"),
         separator: separator_of(found.get_str("separator").unwrap_or("found")),
+        opening: imported_opening_of(found),
+        into_patrons: found.get_str("into-patrons"),
+    })
+}
+
+/// Which opening `import` is asked to make by what was found.
+fn imported_opening_of<'a>(found: &ArgMatches<'a>) -> Option<ImportedOpening<'a>> {
+    let into = found.get_str("into-opening")?;
+    Some(ImportedOpening {
+        into,
+        loans: found.get_str("loans"),
+        holds: found.get_str("holds"),
+        shelf: found.get_str("shelf"),
     })
 }
 

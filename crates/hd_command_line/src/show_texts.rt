@@ -33,7 +33,7 @@ pub(crate) const JOURNAL_SHOW_EXAMPLE: &str = "Example:
   1         p1      1      any           north               a1
   2         p2      2      any           south   2026-04-01
 
-Exit status: 0 if all is well; 1 after a fault, printed as one line (`there is no title NAME`, `DAY is no day`,
+Exit status: 0 if all is well; 1 after a fault, printed as one line (`there is no title NAME`, `DAY is no day, as 2026-03-01`,
 and those of a journal's file, which docs/faults.md has with what to do); 2 if the command line is refused.";
 
 /// The exit statuses of a list below `journal show`.

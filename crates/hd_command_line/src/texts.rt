@@ -125,6 +125,7 @@ pub(crate) const SERVE_EXAMPLE: &str =
     "Example: one connection, whose messages printf makes and nc sends
 
   $ holddesk serve --catalogue demonstration.catalogue --listen 127.0.0.1:6001 --workers 4 --connections 1 &
+  in memory: a stop loses everything
   listening on 127.0.0.1:6001, 4 workers
   the catalogue has 2 branches, 2 terminals, 3 patrons, 2 titles, 5 copies
   event=listening address=\"127.0.0.1:6001\" workers=4

@@ -42,6 +42,8 @@ pub(crate) enum Form {
     Named,
     /// By its place among the words, without a name.
     Placed,
+    /// The same, with all words behind it, which are as many values.
+    Trailing,
 }
 
 /// The value of an option.

@@ -49,7 +49,7 @@ pub are_told : (all : List (List ℕ)) (refused : CatFault) (told : List CatFaul
     → told ≡ take MOST_TOLD (faults_of refused all) → AreTold all told
 are_told all refused told bad is =
     let first = faults_of-first all refused bad in
-    let begins : told ≡ refused ∷ take 19 first.0 = is ∙ ap (take MOST_TOLD) first.1 in
+    let begins : told ≡ refused ∷ take 999 first.0 = is ∙ ap (take MOST_TOLD) first.1 in
     subst (AreTold all) (sym begins) (bad, sym begins ∙ is)
 
 take_whole : {A : Type 0} (n : ℕ) (xs : List A) → length xs ≤ n → take n xs ≡ xs

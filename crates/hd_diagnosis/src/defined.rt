@@ -9,7 +9,7 @@ use std::marker::Model;
 
 /// Names, each with the line that first defines it, in the order of those lines.
 #[derive(Drop)]
-pub(crate) struct Defined {
+pub struct Defined {
     lines: IndexMap<Vec<u8>, usize, BuildHasherDefault<FoldHasher>>,
 }
 
@@ -23,7 +23,7 @@ impl Model for Defined {
 
 impl Defined {
     /// No names.
-    pub(crate) fn new(alloc: Global) -> Defined
+    pub fn new(alloc: Global) -> Defined
         ensures { result ≡ [] }
     {
         Defined {
@@ -32,21 +32,21 @@ impl Defined {
     }
 
     /// How many names there are.
-    pub(crate) fn count(&self) -> usize
+    pub fn count(&self) -> usize
         ensures { result ≡ length self.now }
     {
         self.lines.len()
     }
 
     /// The line that defines a name, if one does.
-    pub(crate) fn line_of(&self, name: &[u8]) -> Option<usize>
+    pub fn line_of(&self, name: &[u8]) -> Option<usize>
         ensures { result ≡ line_of self.now name.now }
     {
         self.lines.get(name).copied()
     }
 
     /// The name with a place in that order, from 0.
-    pub(crate) fn name_at(&self, place: usize) -> Option<&[u8]>
+    pub fn name_at(&self, place: usize) -> Option<&[u8]>
         ensures { IfSome result (λ name. is_defined self.now name.now ≡ true) }
     {
         match self.lines.get_index(place) {
@@ -56,12 +56,7 @@ impl Defined {
     }
 
     /// Takes down that a line defines a name, where none before it does. Out of memory, nothing is changed.
-    pub(crate) fn define(
-        &mut self,
-        alloc: Global,
-        name: &[u8],
-        line: usize,
-    ) -> Result<(), AllocError>
+    pub fn define(&mut self, alloc: Global, name: &[u8], line: usize) -> Result<(), AllocError>
         ensures ok { OnOk result (self.new ≡ with_name self.old name.now line) }
         ensures err { OnErr result (self.new ≡ self.old) }
     {

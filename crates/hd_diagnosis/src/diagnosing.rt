@@ -14,7 +14,7 @@ use hd_catalogue::{CatFault, Catalogue, Cause, first_line};
 use std::alloc::{AllocError, Global};
 
 /// The most faults, and the most warnings, that are reported at once.
-pub const MOST_TOLD: usize = 20;
+pub const MOST_TOLD: usize = 1_000;
 
 /// Reports what is wrong with a catalogue file: nothing where `Catalogue::read` accepts it, and else first
 /// the fault that it gives, and then those of the lines after it, up to [`MOST_TOLD`] in all. Each line is

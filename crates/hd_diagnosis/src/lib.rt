@@ -25,6 +25,8 @@ mod values;
 mod warning;
 mod words;
 
+pub use crate::defined::Defined;
 pub use crate::diagnosing::{MOST_TOLD, diagnose};
 pub use crate::fault::Fault;
+pub use crate::near::nearest;
 pub use crate::warning::{Warning, warn};

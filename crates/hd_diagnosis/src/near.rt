@@ -21,7 +21,7 @@ struct Near {
 ///
 /// # Errors
 /// Out of memory.
-pub(crate) fn nearest<'a>(
+pub fn nearest<'a>(
     alloc: Global,
     names: &'a Defined,
     name: &[u8],

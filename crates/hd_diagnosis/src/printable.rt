@@ -1,15 +1,53 @@
 //! Bytes of a file as one line of printable characters.
-ghost use Rattle.std.specs.Prelude.{◌≡◌, ◌++◌, ◌<◌, IfOk, OnOk, string_bytes, true};
+ghost use Rattle.std.specs.Prelude.{◌≡◌, ◌++◌, ◌<◌, ◌≤◌, ◌⊎◌, IfOk, OnOk, length, string_bytes, true};
 ghost use Rattle.std.specs.List.{flat_map};
-ghost use Rattle.hd_diagnosis.specs.Printable.{hex_digit, is_line, is_printable, shown};
+ghost use Rattle.hd_diagnosis.specs.Printable.{hex_digit, is_line, is_plain, shown};
+ghost use Rattle.hd_diagnosis.specs.declared.printable.TheConstants.{MOST_SHOWN};
 
 use std::alloc::{AllocError, Global};
 
 /// Most bytes of a value that are shown.
 const MOST_SHOWN: usize = 60;
 
-/// These bytes as one line of printable characters: each but 0x20 to 0x7E is written as `\xNN`.
+/// These bytes as one line: as they are where they are text without control characters, and else with each but
+/// 0x20 to 0x7E written as `\xNN`.
 pub(crate) fn printable(alloc: Global, bytes: &[u8]) -> Result<String, AllocError>
+    ensures text { IfOk result
+        (λ text. (string_bytes text ≡ bytes.now) ⊎ (string_bytes text ≡ flat_map shown bytes.now)) }
+    ensures line { IfOk result (λ text. is_line (string_bytes text) ≡ true) }
+{
+    match str::from_utf8(bytes) {
+        Ok(text) if is_line(bytes) && !has_control(text) => String::from_str(alloc, text),
+        _ => escaped(alloc, bytes),
+    }
+}
+
+/// Whether none of these bytes is one of ASCII's control characters.
+fn is_line(bytes: &[u8]) -> bool
+    ensures { result ≡ is_line bytes.now }
+{
+    bytes.iter().all(|byte| is_plain(*byte))
+}
+
+/// Whether a byte is none of ASCII's control characters.
+fn is_plain(byte: u8) -> bool
+    ensures { result ≡ is_plain byte }
+{
+    byte >= 32 && byte != 127
+}
+
+/// Whether a character of a text is a control character.
+fn has_control(text: &str) -> bool {
+    for character in text.chars() {
+        if character.is_control() {
+            return true;
+        }
+    }
+    false
+}
+
+/// These bytes as one line of printable ASCII: each but 0x20 to 0x7E is written as `\xNN`.
+fn escaped(alloc: Global, bytes: &[u8]) -> Result<String, AllocError>
     ensures text { IfOk result (λ text. string_bytes text ≡ flat_map shown bytes.now) }
     ensures line { IfOk result (λ text. is_line (string_bytes text) ≡ true) }
 {
@@ -23,11 +61,25 @@ pub(crate) fn printable(alloc: Global, bytes: &[u8]) -> Result<String, AllocErro
 /// A value in quotes, as far as it is shown.
 pub(crate) fn quoted(alloc: Global, value: &[u8]) -> Result<String, AllocError> {
     if value.len() > MOST_SHOWN {
-        let text = printable(alloc, value.split_at(MOST_SHOWN).0)?;
+        let text = printable(alloc, beginning(value))?;
         format!(in alloc; "'{text}..'")
     } else {
         let text = printable(alloc, value)?;
         format!(in alloc; "'{text}'")
+    }
+}
+
+/// The beginning of a value that is shown of a long one: of a text whole characters.
+fn beginning(value: &[u8]) -> &[u8]
+    requires { MOST_SHOWN ≤ length value.now }
+{
+    let bytes = value.split_at(MOST_SHOWN).0;
+    match str::from_utf8(bytes) {
+        Err(error) if str::from_utf8(value).is_ok() => {
+            let valid = error.valid_up_to().min(bytes.len());
+            bytes.split_at(valid).0
+        }
+        _ => bytes,
     }
 }
 
@@ -50,7 +102,7 @@ fn put_byte(text: &mut String, byte: u8) -> Result<(), AllocError>
 fn hex_digit(number: u8) -> char
     requires { number < 16 }
     ensures digit { result ≡ hex_digit number }
-    ensures printable { is_printable result ≡ true }
+    ensures plain { is_plain result ≡ true }
     ensures ascii { result < 128 }
 {
     if number < 10 {

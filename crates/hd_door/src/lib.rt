@@ -16,7 +16,7 @@ mod timely;
 
 pub use crate::door::Door;
 pub use crate::fault::{DoorFault, HearFault};
-pub use crate::hearing::{MOST, RequestText, hear};
+pub use crate::hearing::{MOST, RequestText, hear, hear_request};
 pub use crate::responding::{Response, respond};
 pub use crate::serving::{Service, serve};
 pub use crate::stopping::OnStop;

@@ -2,7 +2,7 @@
 ghost use Rattle.std.specs.Prelude.{◌*◌, ◌≡◌, ◌≢◌, IfErr, IfOk, None, Ok, OnErr, true};
 ghost use Rattle.std.specs.Duration.{as_nanos};
 ghost use Rattle.hd_http.specs.declared.answering.Sequel.TheVariants.{Stop};
-ghost use Rattle.hd_door.specs.Hearing.{HasReason, IsHeard};
+ghost use Rattle.hd_door.specs.Hearing.{HasReasonOf, IsRequestHeard};
 ghost use Rattle.hd_door.specs.Responding.{IsResponse, WentOut};
 ghost use Rattle.hd_door.specs.declared.hearing.RequestText.{RequestText};
 ghost use Rattle.hd_door.specs.declared.responding.Response.{Response};
@@ -10,13 +10,13 @@ ghost use Rattle.hd_door.specs.declared.responding.Response.{Response};
 use crate::connection::Connection;
 use crate::door::Door;
 use crate::fault::HearFault;
-use crate::hearing::hear;
+use crate::hearing::hear_request;
 use crate::lingering::linger;
 use crate::responding::{Response, respond};
 use crate::stopping::OnStop;
 use crate::timely::Timely;
 use hd_connection::{Input, Output, write_all};
-use hd_http::{Page, Sequel, View};
+use hd_http::{Page, Player, Sequel, View};
 use std::alloc::Global;
 use std::os::unix::net::UnixStream;
 use std::sync::Wait;
@@ -26,7 +26,7 @@ use std::time::{Clock, Duration};
 /// How many connections are attended to at once.
 const WORKERS: usize = 4;
 
-/// For how many seconds a request's head may come.
+/// For how many seconds a request may come: its head, and the lines that it brings.
 const HEAD_SECONDS: u64 = 5;
 
 /// For how many seconds an answer may be taken.
@@ -40,12 +40,14 @@ const PAUSE_MILLISECONDS: u64 = 100;
 
 /// What is served at a door.
 #[derive(Drop)]
-pub struct Service<'a, V, S> {
+pub struct Service<'a, V, P, S> {
     pub alloc: Global,
     /// What is answered at `/`.
     pub page: Page<'a>,
     /// What all else is answered of.
     pub view: &'a V,
+    /// Who plays the lines that are posted.
+    pub player: &'a P,
     /// What `POST /stop` calls.
     pub on_stop: S,
 }
@@ -53,13 +55,14 @@ pub struct Service<'a, V, S> {
 /// Answers the requests that come in at a door, until it is closed: one of each connection, four connections
 /// at a time. Where not all threads can be had, those that can and this one do the work.
 ///
-/// A request's head has 5 seconds and 8,192 bytes, and an answer 5 seconds. `POST /stop` is answered, and
+/// A request has 5 seconds, its head 8,192 bytes, the lines that it brings as many, and an answer 5 seconds. `POST /stop` is answered, and
 /// then calls what the service has for it; its connection stays open until the door is taken away.
-pub fn serve<R: Threads + Wait + Clock + Sync, V: View + Sync, S: OnStop + Copy + Sync>(
-    rt: &R,
-    door: &Door,
-    service: &Service<'_, V, S>,
-) {
+pub fn serve<
+    R: Threads + Wait + Clock + Sync,
+    V: View + Sync,
+    P: Player + Sync,
+    S: OnStop + Copy + Sync,
+>(rt: &R, door: &Door, service: &Service<'_, V, P, S>) {
     thread::scope(thread::scope_env(), rt, |scope| {
         for _ in 1..WORKERS {
             if scope.spawn(|| work(rt, door, service)).is_err() {
@@ -71,10 +74,10 @@ pub fn serve<R: Threads + Wait + Clock + Sync, V: View + Sync, S: OnStop + Copy 
 }
 
 /// Attends to one connection after another, until the door is closed.
-fn work<R: Wait + Clock, V: View, S: OnStop + Copy>(
+fn work<R: Wait + Clock, V: View, P: Player, S: OnStop + Copy>(
     rt: &R,
     door: &Door,
-    service: &Service<'_, V, S>,
+    service: &Service<'_, V, P, S>,
 ) {
     for came in door.listener.incoming() {
         if door.is_closed() {
@@ -90,10 +93,10 @@ fn work<R: Wait + Clock, V: View, S: OnStop + Copy>(
 }
 
 /// Attends to a connection. It is closed then, but for one by which a stop was asked.
-fn welcome<R: Wait + Clock, V: View, S: OnStop + Copy>(
+fn welcome<R: Wait + Clock, V: View, P: Player, S: OnStop + Copy>(
     rt: &R,
     door: &Door,
-    service: &Service<'_, V, S>,
+    service: &Service<'_, V, P, S>,
     connection: UnixStream,
 ) {
     let mut on_stop = service.on_stop;
@@ -109,9 +112,9 @@ fn welcome<R: Wait + Clock, V: View, S: OnStop + Copy>(
 ///
 /// # Errors
 /// As `attend`.
-fn attend_to<R: Clock, V: View, S: OnStop>(
+fn attend_to<R: Clock, V: View, P: Player, S: OnStop>(
     rt: &R,
-    service: &Service<'_, V, S>,
+    service: &Service<'_, V, P, S>,
     connection: &UnixStream,
     on_stop: &mut S,
 ) -> Result<Sequel, HearFault>
@@ -126,29 +129,33 @@ fn attend_to<R: Clock, V: View, S: OnStop>(
 /// Answers the request that comes: what the answer was followed by.
 ///
 /// # Errors
-/// As `hear`; `Memory` also where it runs out for the answer. Nothing is written then.
-fn attend<I: Input, O: Output, V: View, S: OnStop>(
-    service: &Service<'_, V, S>,
+/// As `hear_request`; `Memory` also where it runs out for the answer. Nothing is written then.
+fn attend<I: Input, O: Output, V: View, P: Player, S: OnStop>(
+    service: &Service<'_, V, P, S>,
     from: &mut I,
     to: &mut O,
     on_stop: &mut S,
 ) -> Result<Sequel, HearFault>
     ensures answered { IfOk result (λ sequel. (heard : RequestText) × (response : Response)
-        × IsHeard (I.remaining from.old) (I.remaining from.new) heard
+        × IsRequestHeard (P.plays_any service.now.player.now)
+        (I.remaining from.old) (I.remaining from.new) heard
         × IsResponse service.now.page.policy.now (record {
           page = service.now.page.text.now;
           shows = V.shows service.now.view.now;
           tells = V.tells service.now.view.now;
-        }) heard response
+        }) (record { is_on = P.plays_any service.now.player.now; plays = P.plays service.now.player.now })
+        heard response
         × (sequel ≡ response.sequel)
         × WentOut (O.contents to.old) (O.contents to.new) (O.fails to.new) response.text.items) }
     ensures silent { OnErr result (to.new ≡ to.old) }
-    ensures why { IfErr result (HasReason (I.fails from.new) (I.remaining from.old) (I.remaining from.new)) }
+    ensures why { IfErr result (HasReasonOf (P.plays_any service.now.player.now) (I.fails from.new)
+        (I.remaining from.old) (I.remaining from.new)) }
     ensures stop { result ≡ Ok Stop → S.is_called on_stop.new ≡ true }
     ensures goes_on { result ≢ Ok Stop → on_stop.new ≡ on_stop.old }
 {
-    let heard = hear(service.alloc, from)?;
-    let response = respond(service.alloc, &heard, &service.page, service.view)?;
+    let player = service.player;
+    let heard = hear_request(service.alloc, from, player.is_on())?;
+    let response = respond(service.alloc, &heard, &service.page, service.view, player)?;
     give(&response, to, on_stop);
     Ok(response.sequel)
 }

@@ -62,7 +62,7 @@ fn patience(request: &Request<'_>) -> Option<Duration>
 {
     match request {
         Request::Stop => None,
-        Request::Health | Request::Metrics | Request::See(_) => {
+        Request::Health | Request::Metrics | Request::See(_) | Request::Lines { .. } => {
             Some(Duration::from_secs(PATIENCE))
         }
     }

@@ -8,7 +8,7 @@ use std::alloc::{AllocError, Global};
 ///
 /// # Errors
 /// Nobody listens there, or none who can be asked; what comes isn't one whole answer; out of memory.
-pub(crate) fn answer_at(
+pub fn answer_at(
     rt: &HostRuntime,
     door: &str,
     request: &Request<'_>,
@@ -23,7 +23,7 @@ pub(crate) fn answer_at(
 ///
 /// # Errors
 /// Out of memory.
-pub(crate) fn unanswered(
+pub fn unanswered(
     alloc: Global,
     door: &str,
     fault: AskFault,
@@ -42,6 +42,6 @@ pub(crate) fn unanswered(
 ///
 /// # Errors
 /// Out of memory.
-pub(crate) fn refusal(alloc: Global, answer: &Answer) -> Result<DoorCommandFault, AllocError> {
+pub fn refusal(alloc: Global, answer: &Answer) -> Result<DoorCommandFault, AllocError> {
     Ok(DoorCommandFault::Told(first_line(alloc, answer.body.as_slice())?))
 }

@@ -26,6 +26,9 @@ pub enum DoorCommandFault {
     /// A server says why it doesn't do what it was asked.
     #[error("the server says: {0}")]
     Told(String),
+    /// What was asked of the desk isn't done, for this reason.
+    #[error("{0}")]
+    Undone(String),
     /// What the server answers can't be written.
     #[error("cannot write")]
     CannotWrite,

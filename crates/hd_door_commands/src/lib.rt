@@ -6,6 +6,7 @@ mod fault;
 mod seeing;
 mod standing;
 
+pub use crate::answering::{answer_at, refusal, unanswered};
 pub use crate::fault::DoorCommandFault;
 pub use crate::seeing::show;
 pub use crate::standing::{stop, tell_status};

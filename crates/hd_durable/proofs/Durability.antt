@@ -77,7 +77,6 @@ pub left_none : (k : Facts) (answered left : List Turn) → IsLegal k answered �
     → IsLeft k answered left
 left_none k answered left legal is = record {
   more = [];
-  few = omega arith;
   legal = subst (IsLegal k) (sym (append-nil answered)) legal;
   is = is ∙ ap (changing k) (sym (append-nil answered));
 }
@@ -86,7 +85,7 @@ left_none k answered left legal is = record {
 pub left_one : (k : Facts) (answered : List Turn) (turn : Turn) (left : List Turn)
     → IsLegal k (answered ++ turn ∷ []) → left ≡ changing k (answered ++ turn ∷ []) → IsLeft k answered left
 left_one k answered turn left legal is =
-    record { more = turn ∷ []; few = omega arith; legal = legal; is = is }
+    record { more = turn ∷ []; legal = legal; is = is }
 
 -- it isn't known whether it is left
 pub left_either : (k : Facts) (answered : List Turn) (turn : Turn) (left : List Turn)

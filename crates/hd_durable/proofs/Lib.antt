@@ -1,5 +1,10 @@
 pub mod Leaving
 pub mod Beginnings
 pub mod Durability
-pub mod Counting
 pub mod Refusing
+pub mod Counting
+pub mod Prefixes
+pub mod Committing
+pub mod Remembering
+pub mod Joining
+pub mod Taking

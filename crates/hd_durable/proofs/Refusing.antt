@@ -3,13 +3,12 @@ use Rattle.std.proofs.Common.{◌≡◌, sym, ◌∙◌, ap, subst, ℕ, Option,
 use Rattle.std.specs.Prelude.{take}
 use Rattle.hd_rules.specs.Journal.{Turn}
 use Rattle.hd_journal.specs.declared.fault.TurnFault.{TurnFault}
-use Rattle.hd_journal.specs.declared.fault.TurnFault.TheVariants as fault
 use Rattle.hd_journal.specs.declared.fault.WriteFault.{WriteFault}
 use Rattle.hd_journal.specs.declared.turn.Turn.{Turn as Made}
 use Rattle.hd_rules.specs.Messages.{SeatMessage}
 use Rattle.hd_journal.specs.Books.{Book, AddsTurn, MakesNoTurn, machine_answer, next_turn}
-use Rattle.hd_journal.specs.Faults.{IsMemory, IsMemoryOrUnwritten}
-use Rattle.hd_durable.specs.Durable.{DurableValue, IsShutFor, IsTakeFault, refuses_turn_of}
+use Rattle.hd_journal.specs.Faults.{IsMemory}
+use Rattle.hd_durable.specs.Durable.{DurableValue, IsTakeFault, refuses_turn_of}
 
 -- what it shows
 abbrev pub shown : {Table : Type 0} → Book → ℕ → Table → Option WriteFault → DurableValue Table
@@ -36,10 +35,3 @@ refused_one refuses old new ask made why adds refused = (
   (machine_answer old ask.message).reply,
   refused old.turns (next_turn old ask.seat ask.message) adds.turns,
 )
-
--- it is memory, or that a turn couldn't be written
-pub kinds : {Table : Type 0} (refuses : WriteFault → Type 0) (old new : DurableValue Table) (why : TurnFault)
-    → IsTakeFault refuses old new why → IsMemoryOrUnwritten why
-kinds refuses old new fault.Memory is = tt
-kinds refuses old new (fault.Estranged front) is = is
-kinds refuses old new (fault.Unwritten why) is = tt

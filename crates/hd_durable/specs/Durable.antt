@@ -50,11 +50,10 @@ IsTakeFault refuses old new fault.Memory = (old.shut ≡ None) × (new ≡ old)
 IsTakeFault refuses old new (fault.Estranged front) = ⊥
 IsTakeFault refuses old new (fault.Unwritten why) = (new.shut ≡ Some why) × IsShutFor refuses old why
 
--- A stop leaves the changing turns of those that were answered, or of these and one more, which is legal too
--- and which nobody was answered.
+-- A stop leaves the changing turns of those that were answered, or of these and more, which are legal too and
+-- which nobody was answered.
 pub record IsLeft (k : Facts) (answered left : List Turn) : Type 0 where
   pub more : List Turn
-  pub few : length more ≤ 1
   pub legal : IsLegal k (answered ++ more)
   pub is : left ≡ changing k (answered ++ more)
 

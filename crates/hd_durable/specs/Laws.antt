@@ -1,5 +1,5 @@
 -- What is proved of the changing turns.
-use Rattle.std.specs.Prelude.{◌≡◌, ◌≤◌, false, if◌then◌else◌, List, [], ◌∷◌, ◌++◌, length}
+use Rattle.std.specs.Prelude.{◌≡◌, false, if◌then◌else◌, List, [], ◌∷◌, ◌++◌}
 use Rattle.hd_rules.specs.Facts.{Facts}
 use Rattle.hd_rules.specs.Turns.{Message, State}
 use Rattle.hd_rules.specs.Machine.{turn_of}
@@ -43,5 +43,4 @@ ATurnMoreIsKeptWhereItChanges =
 abbrev pub AStopLeavesALegalJournal : Type 0
 AStopLeavesALegalJournal =
     (k : Facts) (answered left : List Turn) → IsLeft k answered left →
-    IsLegal k left × ((more : List Turn) × (length more ≤ 1)
-    × (state_after k left ≡ state_after k (answered ++ more)))
+    IsLegal k left × ((more : List Turn) × (state_after k left ≡ state_after k (answered ++ more)))

@@ -9,22 +9,22 @@ ghost use Rattle.hd_rules.specs.Messages.{IsKnownMessage};
 ghost use Rattle.hd_journal.specs.Books.{IsLegalBook, facts, turn_numbered};
 ghost use Rattle.hd_journal.specs.Changing.{changing};
 ghost use Rattle.hd_journal.specs.Shown.{turn_shown};
-ghost use Rattle.hd_durable.specs.Durable.{Answers, AreCommitted, IsLeft, IsTakeFault, refuses_turn_of};
+ghost use Rattle.hd_durable.specs.Durable.{Answers, AreCommitted, IsDurable, IsLeft, IsTakeFault};
+ghost use Rattle.hd_durable.specs.Durable.{refuses_turn_of};
 
 use crate::table::TurnTable;
-use crate::timed::{LastCommit, TimedTable};
 use hd_catalogue::Catalogue;
 use hd_journal::{Journal, OwnedAsk, Turn, TurnFault, TurnRef, WriteFault};
 use std::alloc::{Allocator, Global};
 use std::marker::Model;
-use std::sync::{Arc, Wait};
-use std::time::Clock;
+use std::sync::Arc;
 
 /// A journal each of whose changing turns is committed to a table before it is answered.
 ///
 /// Whatever is asked, a stop at any moment leaves the changing turns of all that were answered, or of these
-/// and one more that nobody was answered (`left` of `take`). Where a turn can't be committed the journal
-/// shuts for good, and reports why to each that asks.
+/// and of later ones that nobody was answered (`left` of `take`). Where a turn can't be committed the journal
+/// shuts for good, and reports why to each that asks. A hall takes it apart (`Back::open`), so that one commit
+/// serves many seats, and puts it together again at the end.
 pub struct DurableJournal<T: TurnTable, A: Allocator = Global> {
     journal: Journal<A>,
     table: T,
@@ -99,7 +99,7 @@ impl<T: TurnTable, A: Allocator + Copy> DurableJournal<T, A> {
             → IsLeft (facts_of self.new.contents) self.new.turns left }
         ensures legal { IsLegalBook self.new.contents self.new.turns }
         ensures why { IfErr result (IsTakeFault (refuses_turn_of
-            (λ turn. T.refuses self.old.table turn self.new.table) ask) self.old self.new) }
+            (λ turn. T.refuses self.old.table (turn ∷ []) self.new.table) ask) self.old self.new) }
         ensures err { OnErr result (self.new.turns ≡ self.old.turns) }
         ensures contents { self.new.contents ≡ self.old.contents }
     {
@@ -151,7 +151,7 @@ impl<T: TurnTable, A: Allocator + Copy> DurableJournal<T, A> {
     }
 
     /// The table. While the journal is open it has the changing turns of all that were answered, each
-    /// committed, and a stop leaves no others; of a journal that is shut it may leave one more.
+    /// committed, and a stop leaves no others; of a journal that is shut it may leave more.
     pub fn table(&self) -> &T
         ensures table { result.now ≡ self.now.table }
         ensures catalogue { T.contents self.now.table ≡ self.now.contents }
@@ -182,26 +182,23 @@ impl<T: TurnTable, A: Allocator + Copy> DurableJournal<T, A> {
         }
     }
 
-    /// The same journal, of whose commits is noted how long each takes.
-    pub fn timed<'a, R: Wait + Clock>(
-        self,
-        rt: &'a R,
-        last: &'a LastCommit,
-    ) -> DurableJournal<TimedTable<'a, R, T>, A>
-        ensures turns { result.turns ≡ self.turns }
-        ensures contents { result.contents ≡ self.contents }
-        ensures table { result.table.table ≡ self.table }
-        ensures shut { result.shut ≡ self.shut }
+    /// A journal of which so many turns were answered, its table, and why it is shut, where it is.
+    pub(crate) fn of_parts(
+        journal: Journal<A>,
+        table: T,
+        answered: usize,
+        shut: Option<WriteFault>,
+    ) -> DurableJournal<T, A>
+        requires { IsDurable (T.contents table) (T.holds table) (T.leaves table) journal.contents
+            journal.turns answered shut }
+        ensures contents { result.contents ≡ journal.contents }
+        ensures turns { result.turns ≡ take answered journal.turns }
+        ensures table { result.table ≡ table }
+        ensures shut { result.shut ≡ shut }
     {
-        let DurableJournal {
-            journal,
-            table,
-            answered,
-            shut,
-        } = self;
         DurableJournal {
             journal,
-            table: TimedTable::new(rt, last, table),
+            table,
             answered,
             shut,
         }
@@ -227,6 +224,36 @@ impl<T: TurnTable, A: Allocator + Copy> DurableJournal<T, A> {
     }
 }
 
+impl<T: TurnTable + Drop, A: Allocator + Copy> DurableJournal<T, A> {
+    /// The journal and the table, where it is open: the table has the changing turns, each committed, and a
+    /// stop leaves no others.
+    ///
+    /// # Errors
+    /// Why it is shut.
+    pub(crate) fn into_open(self) -> Result<(Journal<A>, T), WriteFault>
+        ensures journal { IfOk result (λ parts.
+            (parts.0.contents ≡ self.contents) × (parts.0.turns ≡ self.turns)) }
+        ensures catalogue { IfOk result (λ parts. T.contents parts.1 ≡ self.contents) }
+        ensures held { IfOk result (λ parts.
+            T.holds parts.1 (changing (facts_of self.contents) self.turns)) }
+        ensures settled { IfOk result (λ parts. (left : List TurnValue) → T.leaves parts.1 left
+            → left ≡ changing (facts_of self.contents) self.turns) }
+        ensures legal { IsLegalBook self.contents self.turns }
+        ensures open { OnOk result (self.shut ≡ None) }
+    {
+        let DurableJournal {
+            journal,
+            table,
+            answered: _answered,
+            shut,
+        } = self;
+        if let Some(why) = shut {
+            return Err(why);
+        }
+        Ok((journal, table))
+    }
+}
+
 /// Commits the last turn of a journal.
 fn commit_last<T: TurnTable, A: Allocator + Copy>(
     journal: &Journal<A>,
@@ -241,7 +268,7 @@ fn commit_last<T: TurnTable, A: Allocator + Copy>(
     ensures settled { OnOk result ((held left : List TurnValue) → T.holds table.new held
         → T.leaves table.new left → left ≡ held) }
     ensures why { IfErr result (λ why. (turns : List TurnValue) (turn : TurnValue)
-        → journal.now.turns ≡ turns ++ turn ∷ [] → T.refuses table.old turn table.new why) }
+        → journal.now.turns ≡ turns ++ turn ∷ [] → T.refuses table.old (turn ∷ []) table.new why) }
     ensures err { OnErr result ((turns held left : List TurnValue) (turn : TurnValue)
         → journal.now.turns ≡ turns ++ turn ∷ [] → IsLegal (facts journal.now) (held ++ turn ∷ [])
         → T.holds table.old held → T.leaves table.new left
@@ -251,5 +278,5 @@ fn commit_last<T: TurnTable, A: Allocator + Copy>(
     let Some(last) = journal.last_turn() else {
         unreachable!()
     };
-    table.commit(&last)
+    table.commit(&[last])
 }

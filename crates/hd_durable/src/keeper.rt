@@ -1,114 +1,158 @@
 //! A durable journal as what keeps a hall's journal.
 
-ghost use Rattle.std.specs.Prelude.{◌≡◌, ◌≤◌, [], drop, length};
+ghost use Rattle.std.specs.Prelude.{◌≡◌};
 
-use crate::journal::DurableJournal;
+use crate::asks::AskCopies;
+use crate::back::Back;
+use crate::memory::InMemory;
 use crate::table::TurnTable;
+use crate::timed::LastCommit;
 use hd_catalogue::Catalogue;
+use hd_history::{Front, History};
 use hd_journal::{
-    Ask, CataloguedKeeper, Keeper, Look, OwnedAsk, Turn, TurnFault, TurnRef, Turns, WriteFault,
+    Ask, CataloguedKeeper, Keeper, Look, Turn, TurnFault, TurnRef, Turns, WriteFault,
 };
-use std::alloc::{AllocError, Allocator, Global};
-use std::sync::Arc;
+use std::alloc::{AllocError, Global};
+use std::sync::{Arc, Wait};
+use std::time::Clock;
 
-/// A durable journal under a hall's lock. The hall counts the turns from here on.
-pub struct DurableKeeper<T: TurnTable, A: Allocator = Global> {
-    journal: DurableJournal<T, A>,
-    /// How many turns the journal had when it became a keeper.
-    begun: usize,
-    ghost within: { begun ≤ length journal.turns },
+/// A journal under a hall's lock, whose changing turns are committed beside it, many at a time. The hall counts
+/// the turns from here on.
+pub struct DurableKeeper<'a, J: History, R, T: TurnTable + Drop> {
+    rt: &'a R,
+    last: &'a LastCommit,
+    back: &'a Back<J, T>,
+    memory: InMemory<J>,
 }
 
 // Written out, so that a caller's proof sees one call and not the drop of each field.
-impl<T: TurnTable + Drop, A: Allocator> Drop for DurableKeeper<T, A> {
+impl<'a, J: History, R, T: TurnTable + Drop> Drop for DurableKeeper<'a, J, R, T> {
     fn drop(self) {
         let DurableKeeper {
-            journal: _journal,
-            begun: _begun,
+            rt: _rt,
+            last: _last,
+            back: _back,
+            memory: _memory,
         } = self;
     }
 }
 
-impl<T: TurnTable, A: Allocator + Copy> DurableKeeper<T, A> {
-    /// A keeper, which has come through no turns yet.
-    pub fn new(journal: DurableJournal<T, A>) -> DurableKeeper<T, A>
-        ensures journal { result.journal ≡ journal }
-        ensures begun { result.begun ≡ length journal.turns }
-        ensures none { drop result.begun result.journal.turns ≡ [] }
+impl<'a, J: History, R, T: TurnTable + Drop> DurableKeeper<'a, J, R, T> {
+    /// A keeper of a journal in memory. How long commits take is measured by this clock, and noted there.
+    pub fn new(
+        rt: &'a R,
+        last: &'a LastCommit,
+        back: &'a Back<J, T>,
+        memory: InMemory<J>,
+    ) -> DurableKeeper<'a, J, R, T>
+        ensures { result.memory ≡ memory }
     {
-        let begun = journal.front();
-        DurableKeeper { journal, begun }
+        DurableKeeper {
+            rt,
+            last,
+            back,
+            memory,
+        }
     }
 
-    /// The journal.
-    pub fn into_journal(self) -> DurableJournal<T, A>
-        ensures { result ≡ self.journal }
+    /// The journal in memory.
+    pub fn into_memory(self) -> InMemory<J>
+        ensures { result ≡ self.entry.memory }
     {
         let DurableKeeper {
-            journal,
-            begun: _begun,
+            rt: _rt,
+            last: _last,
+            back: _back,
+            memory,
         } = self;
-        journal
+        memory
     }
 }
 
-impl<T: TurnTable, A: Allocator + Copy> Turns for DurableKeeper<T, A> {
-    ghost use Rattle.std.specs.Prelude.{drop, take};
+/// What is committed before a turn is answered: the turns up to the last changing one.
+pub struct Ticket<'a, J: History, R, T: TurnTable + Drop> {
+    rt: &'a R,
+    last: &'a LastCommit,
+    back: &'a Back<J, T>,
+    mine: Front<J>,
+}
 
-    ghost opening = { λ keeper. record {
-      contents = keeper.journal.contents;
-      begun = take keeper.begun keeper.journal.turns;
-    } };
+// Written out, so that a caller's proof sees one call and not the drop of each field.
+impl<'a, J: History, R, T: TurnTable + Drop> Drop for Ticket<'a, J, R, T> {
+    fn drop(self) {
+        let Ticket {
+            rt: _rt,
+            last: _last,
+            back: _back,
+            mine: _mine,
+        } = self;
+    }
+}
 
-    ghost turns = { λ keeper. drop keeper.begun keeper.journal.turns };
+impl<'a, J: History, R, T: TurnTable + Drop> Turns for DurableKeeper<'a, J, R, T> {
+    ghost opening = { λ keeper. J.opening };
+
+    ghost turns = { λ keeper. keeper.memory.turns };
 
     fn front(&self) -> usize {
-        self.journal.front() - self.begun
+        self.memory.front()
     }
 
     fn turn_at(&self, at: usize) -> Option<TurnRef<'_>> {
-        let front = self.journal.front();
-        if at == 0 || at > front - self.begun {
-            return None;
-        }
-        self.journal.turn_at(self.begun + at)
+        self.memory.turn_at(at)
     }
 }
 
-impl<T: TurnTable, A: Allocator + Copy> Keeper<A, OwnedAsk<A>> for DurableKeeper<T, A> {
+impl<'a, J: History, R: Wait + Clock, T: TurnTable + Drop> Keeper<Global, AskCopies>
+    for DurableKeeper<'a, J, R, T> {
     ghost use Rattle.hd_journal.specs.Faults.{IsMemoryOrUnwritten};
-    ghost use Rattle.hd_durable.specs.Durable.{IsTakeFault, refuses_turn_of};
+    ghost use Rattle.hd_durable.specs.Commits.{HasChanging, IsCommitted, IsMemoryFault};
 
-    ghost asks = { λ ask. ask };
+    type Ticket = Ticket<'a, J, R, T>;
+
+    ghost asks = { λ asks. asks };
 
     ghost faults = { IsMemoryOrUnwritten };
 
-    ghost causes = { λ old ask new. IsTakeFault (refuses_turn_of
-        (λ turn. T.refuses old.journal.table turn new.journal.table) ask)
-        old.journal new.journal };
+    ghost causes = { λ old ask new. IsMemoryFault old.memory new.memory };
 
-    ghost shut = { λ keeper. keeper.journal.shut };
+    ghost shut = { λ keeper. keeper.memory.shut };
 
-    fn own(alloc: A, ask: &Ask<'_>) -> Result<OwnedAsk<A>, AllocError> {
-        OwnedAsk::of(alloc, ask)
+    ghost covers = { λ ticket turns. HasChanging J.opening ticket.mine turns };
+
+    ghost safe = { IsCommitted T.contents T.leaves J.opening };
+
+    fn ticket(&self) -> Ticket<'a, J, R, T> {
+        Ticket {
+            rt: self.rt,
+            last: self.last,
+            back: self.back,
+            mine: self.memory.changed().again(),
+        }
     }
 
-    fn take(&mut self, own: OwnedAsk<A>) -> Result<Turn, TurnFault> {
-        let turn = self.journal.take(own)?;
-        Ok(Turn {
-            at: turn.at - self.begun,
-            reply: turn.reply,
-        })
+    fn settle<S: Wait>(_rt: &S, ticket: Ticket<'a, J, R, T>) -> Result<(), WriteFault> {
+        let _kept = ticket.back.settle(ticket.rt, ticket.last, &ticket.mine)?;
+        Ok(())
     }
 
-    fn show<L: Look<A>>(&self, reader: &mut L) -> Result<(), WriteFault> {
-        reader.look(self.journal.answered_journal()?);
+    fn own(alloc: Global, ask: &Ask<'_>) -> Result<AskCopies, AllocError> {
+        AskCopies::of(alloc, ask)
+    }
+
+    fn take(&mut self, own: AskCopies) -> Result<Turn, TurnFault> {
+        self.back.take(self.rt, &mut self.memory, own)
+    }
+
+    fn show<L: Look<Global>>(&self, reader: &mut L) -> Result<(), WriteFault> {
+        reader.look(self.memory.journal()?);
         Ok(())
     }
 }
 
-impl<T: TurnTable, A: Allocator + Copy> CataloguedKeeper<A, OwnedAsk<A>> for DurableKeeper<T, A> {
-    fn catalogue(&self) -> &Arc<Catalogue<A>, A> {
-        self.journal.catalogue()
+impl<'a, J: History, R: Wait + Clock, T: TurnTable + Drop> CataloguedKeeper<Global, AskCopies>
+    for DurableKeeper<'a, J, R, T> {
+    fn catalogue(&self) -> &Arc<Catalogue<Global>, Global> {
+        self.memory.catalogue()
     }
 }

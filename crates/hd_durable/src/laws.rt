@@ -36,7 +36,7 @@ pub fn a_turn_more_is_kept_where_it_changes()
 {}
 
 /// What a stop leaves is a legal journal, which comes to the state of the turns that were answered, or of
-/// these and one more that nobody was answered.
+/// these and more that nobody was answered.
 pub fn a_stop_leaves_a_legal_journal()
     ensures { AStopLeavesALegalJournal }
 {}

@@ -1,6 +1,6 @@
 //! Where turns outlive a stop.
 
-ghost use Rattle.std.specs.Prelude.{◌≡◌, ◌⊎◌, ◌++◌, ◌∷◌, [], IfErr, List, OnErr, OnOk};
+ghost use Rattle.std.specs.Prelude.{◌≡◌, ◌⊎◌, ◌++◌, All, IfErr, List, OnErr, OnOk, map};
 ghost use Rattle.hd_rules.specs.Journal.{IsLegal, Turn};
 ghost use Rattle.hd_catalogue.specs.Contents.{Contents, facts_of};
 ghost use Rattle.hd_rules.specs.Messages.{IsKnownMessage};
@@ -20,25 +20,27 @@ pub trait TurnTable {
     /// That a stop at this moment may leave just these turns in it.
     ghost leaves: { Self → List Turn → Type 0 };
 
-    /// Why it refused to commit this turn, by what it was before and is then.
-    ghost refuses: { Self → Turn → Self → WriteFault → Type 0 };
+    /// Why it refused to commit these turns, by what it was before and is then.
+    ghost refuses: { Self → List Turn → Self → WriteFault → Type 0 };
 
-    /// Commits one turn more, after all others, which are legal with it. What its message names, and its
-    /// terminal, are of the catalogue. A stop after it leaves the turn.
+    /// Commits these turns in one transaction, after all others, which are legal with them. What their messages
+    /// name, and their terminals, are of the catalogue. A stop after it leaves them all.
     ///
     /// # Errors
-    /// Why it can't be written. A stop may then leave the turn or not, and the table is to be used no more.
-    fn commit(&mut self, turn: &TurnRef<'_>) -> Result<(), WriteFault>
-        requires { IsKnownMessage (facts_of (contents self.old)) (turn_shown turn.now).message }
-        ensures ok { OnOk result ((turns : List Turn)
-            → IsLegal (facts_of (contents self.old)) (turns ++ turn_shown turn.now ∷ [])
-            → holds self.old turns → holds self.new (turns ++ turn_shown turn.now ∷ [])) }
-        ensures settled { OnOk result ((turns left : List Turn) → holds self.new turns
-            → leaves self.new left → left ≡ turns) }
-        ensures why { IfErr result (refuses self.old (turn_shown turn.now) self.new) }
-        ensures err { OnErr result ((turns left : List Turn)
-            → IsLegal (facts_of (contents self.old)) (turns ++ turn_shown turn.now ∷ [])
-            → holds self.old turns → leaves self.new left
-            → (left ≡ turns) ⊎ (left ≡ turns ++ turn_shown turn.now ∷ [])) }
+    /// Why they can't be written. A stop may then leave all of them or none, and the table is to be used no
+    /// more.
+    fn commit(&mut self, turns: &[TurnRef<'_>]) -> Result<(), WriteFault>
+        requires { All (λ turn. IsKnownMessage (facts_of (contents self.old)) turn.message)
+            (map turn_shown turns.now) }
+        ensures ok { OnOk result ((before : List Turn)
+            → IsLegal (facts_of (contents self.old)) (before ++ map turn_shown turns.now)
+            → holds self.old before → holds self.new (before ++ map turn_shown turns.now)) }
+        ensures settled { OnOk result ((held left : List Turn) → holds self.new held
+            → leaves self.new left → left ≡ held) }
+        ensures why { IfErr result (refuses self.old (map turn_shown turns.now) self.new) }
+        ensures err { OnErr result ((before left : List Turn)
+            → IsLegal (facts_of (contents self.old)) (before ++ map turn_shown turns.now)
+            → holds self.old before → leaves self.new left
+            → (left ≡ before) ⊎ (left ≡ before ++ map turn_shown turns.now)) }
         ensures contents { contents self.new ≡ contents self.old };
 }

@@ -5,3 +5,4 @@ pub mod Lending
 pub mod Covering
 pub mod Once
 pub mod Walking
+pub mod Growing

@@ -15,7 +15,7 @@ use Rattle.hd_journal.specs.declared.fault.TurnFault.TheVariants as fault
 use Rattle.hd_journal.specs.declared.turn.Turn.{Turn as Made}
 use Rattle.hd_hall.specs.Faults.{IsHallFault, IsLockFault, IsSubmitFault}
 use Rattle.hd_hall.specs.Receipts.{Receipted, HoldsLast, LacksLast, receipt_of}
-use Rattle.hd_hall.specs.Submitting.{IsNextOf, IsStrangeTo}
+use Rattle.hd_hall.specs.Submitting.{IsNextOf, IsNextWith, IsStrangeTo}
 
 -- it is among the turns of the journal
 among_last : (turn : Turn) (begun turns : List Turn) → IsAmong turn (begun ++ (turns ++ turn ∷ []))
@@ -34,28 +34,31 @@ pub next_known : (o : Opening) (rs : List Receipted) (r : Receipted) → IsNextO
 next_known o rs r next = next.legal.known.replies r.turn (among_last r.turn o.begun next.before)
 
 -- the turn that was added behind those that hold the seat's last one is the seat's next
-pub next_of : (o : Opening) (before after : List Turn) (rs : List Receipted) (ask : SeatMessage)
-    (told : Result Made TurnFault)
-    → IsLegalSince o after → IfOk told (λ made. IsAdded before after ask made)
+pub next_of : {K : Type 0} (o : Opening) (before after : List Turn) (rs : List Receipted) (ask : SeatMessage)
+    (covers : K → List Turn → Type 0) (told : Result (Made × K) TurnFault)
+    → IsLegalSince o after → IfOk told (λ r. IsAdded before after ask r.0 × covers r.1 after)
     → OnOk told (HoldsLast before rs)
-    → IfOk told (λ made. IsNextOf o rs (receipt_of ask made))
-next_of o before after rs ask (Err why) legal added holds = tt
-next_of o before after rs ask (Ok made) legal added holds = record {
-  before = before;
-  legal = subst (λ (ts : List Turn). IsLegalSince o ts) added.turns legal;
-  number = omega (
-    arith,
-    added.number,
-    ap length added.turns,
-    length-append before (turn_with_reply ask made.reply ∷ []),
-  );
-  holds = holds;
-}
+    → IfOk told (λ r. IsNextWith o rs (receipt_of ask r.0) (covers r.1))
+next_of o before after rs ask covers (Err why) legal made holds = tt
+next_of o before after rs ask covers (Ok (made, ticket)) legal (added, covered) holds = (
+  record {
+    before = before;
+    legal = subst (λ (ts : List Turn). IsLegalSince o ts) added.turns legal;
+    number = omega (
+      arith,
+      added.number,
+      ap length added.turns,
+      length-append before (turn_with_reply ask made.reply ∷ []),
+    );
+    holds = holds;
+  },
+  subst (λ (ts : List Turn). covers ticket ts) added.turns covered,
+)
 
 -- where the journal lacks the seat's last turn, it is a legal journal that does
 pub strange_of : (o : Opening) (before after : List Turn) (rs : List Receipted) (gives : TurnFault → Type 0)
     (Same : Type 0)
-    (told : Result Made TurnFault) → IsLegalSince o after → OnErr told ((after ≡ before) × Same)
+    {K : Type 0} (told : Result (Made × K) TurnFault) → IsLegalSince o after → OnErr told ((after ≡ before) × Same)
     → IfErr told (IsLockFault gives (λ front. (front ≡ length before) × LacksLast before rs))
     → IfErr told (IsLockFault gives (IsStrangeTo o rs))
 strange_of o before after rs gives Same (Ok made) legal same why = tt

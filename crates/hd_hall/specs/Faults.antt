@@ -33,3 +33,9 @@ abbrev pub IsHallFault : (TurnFault → Type 0) → (ℕ → Type 0) → TurnFau
 IsHallFault gives Lacks fault.Memory = Unit {0}
 IsHallFault gives Lacks (fault.Estranged front) = Lacks front
 IsHallFault gives Lacks (fault.Unwritten why) = gives (fault.Unwritten why)
+
+-- it couldn't be written
+abbrev pub IsUnwritten : TurnFault → Type 0
+IsUnwritten fault.Memory = ⊥
+IsUnwritten (fault.Estranged front) = ⊥
+IsUnwritten (fault.Unwritten why) = Unit {0}

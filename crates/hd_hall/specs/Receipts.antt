@@ -3,6 +3,7 @@ use Rattle.std.specs.Prelude.{◌≡◌, ℕ, ◌+◌, ◌-◌, ◌<◌, List, [
 use Rattle.hd_rules.specs.Journal.{Turn}
 use Rattle.hd_rules.specs.Messages.{SeatMessage, turn_with_reply}
 use Rattle.hd_journal.specs.Shown.{turn_shown}
+use Rattle.hd_journal.specs.declared.fault.WriteFault.{WriteFault}
 use Rattle.hd_journal.specs.declared.turn.Turn.{Turn as Made}
 use Rattle.hd_hall.specs.declared.receipt.Receipt.{Receipt}
 
@@ -32,6 +33,17 @@ abbrev pub last_receipt : List Receipted → Option Receipted
 last_receipt [] = None
 last_receipt (r ∷ []) = Some r
 last_receipt (r ∷ s ∷ ss) = last_receipt (s ∷ ss)
+
+-- all but the last
+abbrev pub but_last : List Receipted → List Receipted
+but_last [] = []
+but_last (r ∷ []) = []
+but_last (r ∷ s ∷ ss) = r ∷ but_last (s ∷ ss)
+
+-- the receipts that were answered: where there is a reason, all but the last
+abbrev pub told : Option WriteFault → List Receipted → List Receipted
+told None rs = rs
+told (Some why) rs = but_last rs
 
 -- the last receipt's number, 0 where there is none
 abbrev pub number_of_last : List Receipted → ℕ

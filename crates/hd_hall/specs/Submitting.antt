@@ -13,6 +13,10 @@ pub record IsNextOf (o : Opening) (receipts : List Receipted) (r : Receipted) : 
   pub number : r.number ≡ length before + 1
   pub holds : HoldsLast before receipts
 
+-- the same, and this holds of that journal's turns, the receipt's among them
+abbrev pub IsNextWith : Opening → List Receipted → Receipted → (List Turn → Type 0) → Type 0
+IsNextWith o receipts r Holds = (next : IsNextOf o receipts r) × Holds (next.before ++ r.turn ∷ [])
+
 -- each receipt is the next of those before it
 abbrev pub AreNext : Opening → List Receipted → Type 0
 AreNext o receipts =

@@ -1,17 +1,19 @@
 //! Halls.
 
-ghost use Rattle.std.specs.Prelude.{◌≡◌, ◌+◌, ◌<◌, [], ℕ, Err, IfOk, IfErr, IfSome, OnOk, OnErr};
+ghost use Rattle.std.specs.Prelude.{◌≡◌, ◌⊎◌, ◌+◌, ◌<◌, [], ℕ, Err, IfOk, IfErr, IfSome, List, OnOk, OnErr};
 ghost use Rattle.std.specs.Prelude.{length, vec_capacity};
 ghost use Rattle.std.specs.Arc.{arc_value};
 ghost use Rattle.hd_catalogue.specs.Contents.{facts_of};
 ghost use Rattle.hd_rules.specs.Messages.{IsKnownMessage, turn_with_reply, message_of};
 ghost use Rattle.hd_hall.specs.Closings.{AreAllParts, AreTurnsOf};
 ghost use Rattle.hd_journal.specs.Books.{Book};
-ghost use Rattle.hd_hall.specs.Faults.{IsLockFault, IsLookFault, IsSubmitFault, NeedsMemory};
+ghost use Rattle.hd_journal.specs.Looks.{HasGoneOn};
+ghost use Rattle.hd_rules.specs.Journal.{Turn as TurnValue};
+ghost use Rattle.hd_hall.specs.Faults.{IsLockFault, IsLookFault, IsSubmitFault, IsUnwritten, NeedsMemory};
 ghost use Rattle.hd_hall.specs.Looking.{IsShownTo};
-ghost use Rattle.hd_hall.specs.Receipts.{receipt_of, receipt_shown};
+ghost use Rattle.hd_hall.specs.Receipts.{Receipted, receipt_of, receipt_shown};
 ghost use Rattle.hd_hall.specs.Seats.{EachSeat, HasRoom, IsAskedFrom, IsWhole, with_receipt};
-ghost use Rattle.hd_hall.specs.Submitting.{AreNext, IsNextOf, IsStrangeTo};
+ghost use Rattle.hd_hall.specs.Submitting.{AreNext, IsNextOf, IsNextWith, IsStrangeTo};
 
 use crate::hall_state::HallState;
 use crate::house::House;
@@ -168,21 +170,127 @@ impl<H: House, A: Allocator + Copy, Q: Drop, K: Keeper<A, Q> + Drop> Hall<H, A, 
     /// `Memory`, which the hall itself gives at a line and at each sixteenth receipt alone; `Estranged` where
     /// the journal lacks the seat's last turn, so never at a seat without receipts; and what the keeper
     /// gives, of which a journal alone gives `Memory` and nothing else. The seat is unchanged. So are the
-    /// journal's turns, as the keeper promises; no clause here can say so, since they are under the lock.
+    /// journal's turns, as the keeper promises; no clause here can say so, since they are under the lock. But
+    /// where the turn was made and couldn't be written, the seat keeps its receipt, and the journal the turn.
     pub fn submit<'l, R: Wait>(
         &self,
         rt: &R,
         seat: &mut Seat<H, A>,
         ask: &Ask<'l>,
     ) -> Result<Receipt<'l>, TurnFault>
-        requires seat { IsAskedFrom seat.old ask.now.seat }
-        requires known { IsKnownMessage (facts_of H.opening.contents) (message_of ask.now).message }
+        requires asked { IsAskedFrom seat.old ask.now.seat
+            × IsKnownMessage (facts_of H.opening.contents) (message_of ask.now).message }
         ensures turn { IfOk result (λ receipt.
             (receipt_shown receipt).turn ≡ turn_with_reply (message_of ask.now) receipt.turn.reply) }
         ensures next { IfOk result (λ receipt. IsNextOf H.opening seat.old.receipts (receipt_shown receipt)) }
         ensures kept { IfOk result (λ receipt. seat.new ≡ with_receipt seat.old (receipt_shown receipt)) }
         ensures all { AreNext H.opening seat.new.receipts }
         // before the lock, memory is needed for a copy of a line, and for each sixteenth receipt
+        ensures why { IfErr result (IsSubmitFault (NeedsMemory seat.old.receipts ask.now.line) K.faults
+            (IsStrangeTo H.opening seat.old.receipts)) }
+        // the turns of the journal that has this one are settled: its keeper says of them what is safe
+        ensures safe { IfOk result (λ receipt.
+            IsNextWith H.opening seat.old.receipts (receipt_shown receipt) K.safe) }
+        // the seat keeps the receipt of a turn that was made and couldn't be written
+        ensures err { IfErr result (λ why. (seat.new ≡ seat.old) ⊎ (IsUnwritten why × ((r : Receipted)
+            × IsNextOf H.opening seat.old.receipts r × (seat.new ≡ with_receipt seat.old r)))) }
+    {
+        let (made, ticket) = self.keep(rt, seat, ask)?;
+        match K::settle(rt, ticket) {
+            Ok(()) => Ok(Receipt::new(ask, &made)),
+            Err(why) => Err(TurnFault::Unwritten(why)),
+        }
+    }
+
+    /// Lends the journal to a reader, under the lock. No turn is made, nothing is changed, and no memory is
+    /// taken here.
+    ///
+    /// # Errors
+    /// `Unwritten` where the keeper shows its journal no more, or a turn that it showed couldn't be written: a
+    /// journal alone always does. The reader may have seen that journal: drop it.
+    pub fn look<R: Wait, L: Look<A>>(&self, rt: &R, reader: &mut L) -> Result<(), TurnFault>
+        requires fits { L.fits reader.old H.opening.contents }
+        ensures saw { OnOk result ((book : Book) × IsShownTo H.opening [] book
+            × L.saw reader.old book reader.new) }
+        ensures safe { OnOk result ((book : Book) × (since : List TurnValue) × HasGoneOn H.opening since book
+            × K.safe since × L.saw reader.old book reader.new) }
+        ensures why { IfErr result (IsLookFault K.faults (λ front. ⊥)) }
+        ensures err { OnErr result ((reader.new ≡ reader.old) ⊎ ((book : Book)
+            × L.saw reader.old book reader.new)) }
+    {
+        let ticket = self.shared.lock(rt).show_with(reader)?;
+        match K::settle(rt, ticket) {
+            Ok(()) => Ok(()),
+            Err(why) => Err(TurnFault::Unwritten(why)),
+        }
+    }
+
+    /// Lends the journal to a reader, under the lock, where it holds the seat's last turn: so a terminal sees
+    /// what it was answered. The seat was opened by this hall. As `look`.
+    ///
+    /// # Errors
+    /// `Estranged` where the journal lacks the seat's last turn, so never at a seat without receipts, and
+    /// else what `look` gives. The reader may have seen the journal: drop it.
+    pub fn look_from<R: Wait, L: Look<A>>(
+        &self,
+        rt: &R,
+        seat: &Seat<H, A>,
+        reader: &mut L,
+    ) -> Result<(), TurnFault>
+        requires fits { L.fits reader.old H.opening.contents }
+        ensures saw { OnOk result ((book : Book) × IsShownTo H.opening seat.now.receipts book
+            × L.saw reader.old book reader.new) }
+        ensures safe { OnOk result ((book : Book) × (since : List TurnValue) × HasGoneOn H.opening since book
+            × K.safe since × L.saw reader.old book reader.new) }
+        ensures why { IfErr result (IsLookFault K.faults (IsStrangeTo H.opening seat.now.receipts)) }
+        ensures err { OnErr result ((reader.new ≡ reader.old) ⊎ ((book : Book)
+            × L.saw reader.old book reader.new)) }
+    {
+        let ticket = self.look_first(rt, seat, reader)?;
+        match K::settle(rt, ticket) {
+            Ok(()) => Ok(()),
+            Err(why) => Err(TurnFault::Unwritten(why)),
+        }
+    }
+
+    /// Lends the journal to a reader, as `look_from`: the ticket of the turns that it saw.
+    ///
+    /// # Errors
+    /// `Estranged`, or `Unwritten`. The reader is as it was.
+    fn look_first<R: Wait, L: Look<A>>(
+        &self,
+        rt: &R,
+        seat: &Seat<H, A>,
+        reader: &mut L,
+    ) -> Result<K::Ticket, TurnFault>
+        requires fits { L.fits reader.old H.opening.contents }
+        ensures saw { OnOk result ((book : Book) × IsShownTo H.opening seat.now.receipts book
+            × L.saw reader.old book reader.new) }
+        ensures covers { IfOk result (λ ticket. (book : Book) × (since : List TurnValue)
+            × HasGoneOn H.opening since book × K.covers ticket since × L.saw reader.old book reader.new) }
+        ensures why { IfErr result (IsLookFault K.faults (IsStrangeTo H.opening seat.now.receipts)) }
+        ensures err { OnErr result (reader.new ≡ reader.old) }
+    {
+        self.shared.lock(rt).look_with(seat.receipts(), reader)
+    }
+
+    /// One turn, which isn't settled yet, and the ticket of the turns up to it. The seat keeps its receipt.
+    ///
+    /// # Errors
+    /// Those of `submit`. The seat is unchanged.
+    fn keep<R: Wait>(
+        &self,
+        rt: &R,
+        seat: &mut Seat<H, A>,
+        ask: &Ask<'_>,
+    ) -> Result<(Turn, K::Ticket), TurnFault>
+        requires asked { IsAskedFrom seat.old ask.now.seat
+            × IsKnownMessage (facts_of H.opening.contents) (message_of ask.now).message }
+        ensures next { IfOk result (λ r. IsNextWith H.opening seat.old.receipts
+            (receipt_of (message_of ask.now) r.0) (K.covers r.1)) }
+        ensures kept { IfOk result (λ r.
+            seat.new ≡ with_receipt seat.old (receipt_of (message_of ask.now) r.0)) }
+        ensures all { AreNext H.opening seat.new.receipts }
         ensures why { IfErr result (IsSubmitFault (NeedsMemory seat.old.receipts ask.now.line) K.faults
             (IsStrangeTo H.opening seat.old.receipts)) }
         ensures err { OnErr result (seat.new ≡ seat.old) }
@@ -193,46 +301,9 @@ impl<H: House, A: Allocator + Copy, Q: Drop, K: Keeper<A, Q> + Drop> Hall<H, A, 
             share,
         } = seat;
         let (copy, own) = self.prepare(receipts, ask)?;
-        let made = self.take(rt, receipts, share, own)?;
+        let (made, ticket) = self.take(rt, receipts, share, own)?;
         receipts.push_reserved(StoredReceipt::new(copy, &made));
-        Ok(Receipt::new(ask, &made))
-    }
-
-    /// Lends the journal to a reader, under the lock. No turn is made, nothing is changed, and no memory is
-    /// taken here.
-    ///
-    /// # Errors
-    /// `Unwritten` where the keeper shows its journal no more: a journal alone always does. The reader is as
-    /// it was.
-    pub fn look<R: Wait, L: Look<A>>(&self, rt: &R, reader: &mut L) -> Result<(), TurnFault>
-        requires fits { L.fits reader.old H.opening.contents }
-        ensures saw { OnOk result ((book : Book) × IsShownTo H.opening [] book
-            × L.saw reader.old book reader.new) }
-        ensures why { IfErr result (IsLookFault K.faults (λ front. ⊥)) }
-        ensures err { OnErr result (reader.new ≡ reader.old) }
-    {
-        self.shared.lock(rt).show(reader)
-    }
-
-    /// Lends the journal to a reader, under the lock, where it holds the seat's last turn: so a terminal sees
-    /// what it was answered. The seat was opened by this hall. As `look`.
-    ///
-    /// # Errors
-    /// `Estranged` where the journal lacks the seat's last turn, so never at a seat without receipts, and
-    /// else what `look` gives. The reader is as it was.
-    pub fn look_from<R: Wait, L: Look<A>>(
-        &self,
-        rt: &R,
-        seat: &Seat<H, A>,
-        reader: &mut L,
-    ) -> Result<(), TurnFault>
-        requires fits { L.fits reader.old H.opening.contents }
-        ensures saw { OnOk result ((book : Book) × IsShownTo H.opening seat.now.receipts book
-            × L.saw reader.old book reader.new) }
-        ensures why { IfErr result (IsLookFault K.faults (IsStrangeTo H.opening seat.now.receipts)) }
-        ensures err { OnErr result (reader.new ≡ reader.old) }
-    {
-        self.shared.lock(rt).look(seat.receipts(), reader)
+        Ok((made, ticket))
     }
 
     /// What is made before the lock is taken: room for one receipt more, a copy of what is asked for it, and
@@ -260,18 +331,18 @@ impl<H: House, A: Allocator + Copy, Q: Drop, K: Keeper<A, Q> + Drop> Hall<H, A, 
     }
 
     /// The lock's section of a turn, counted in the share, where the journal holds the last of these
-    /// receipts.
+    /// receipts: the turn, and the ticket of the turns up to it.
     fn take<R: Wait>(
         &self,
         rt: &R,
         receipts: &[StoredReceipt<A>],
         share: &mut Share<H>,
         own: Q,
-    ) -> Result<Turn, TurnFault>
+    ) -> Result<(Turn, K::Ticket), TurnFault>
         requires part { 0 < share.old.parts }
         requires known { IsKnownMessage (facts_of H.opening.contents) (K.asks own).message }
-        ensures next { IfOk result (λ made.
-            IsNextOf H.opening receipts.now (receipt_of (K.asks own) made)) }
+        ensures next { IfOk result (λ r.
+            IsNextWith H.opening receipts.now (receipt_of (K.asks own) r.0) (K.covers r.1)) }
         ensures share { OnOk result
             ((share.new.parts ≡ share.old.parts) × (share.new.amount ≡ share.old.amount + 1)) }
         ensures why { IfErr result (IsLockFault K.faults (IsStrangeTo H.opening receipts.now)) }

@@ -77,7 +77,7 @@ impl<H: House, A: Allocator, Q: Drop, K: Turns> HallState<H, A, Q, K> {
 
 impl<H: House, A: Allocator, Q: Drop, K: Keeper<A, Q>> HallState<H, A, Q, K> {
     /// Makes the turn of what is asked, counted in the share, where the journal holds the last of these
-    /// receipts.
+    /// receipts: the turn, and the ticket of the turns up to it.
     ///
     /// # Errors
     /// `Estranged` where the journal lacks that receipt's turn; otherwise the fault that its keeper gives,
@@ -87,12 +87,13 @@ impl<H: House, A: Allocator, Q: Drop, K: Keeper<A, Q>> HallState<H, A, Q, K> {
         receipts: &[StoredReceipt<A>],
         share: &mut Share<H>,
         own: Q,
-    ) -> Result<Turn, TurnFault>
+    ) -> Result<(Turn, K::Ticket), TurnFault>
         requires asked { (0 < share.old.parts)
             × IsKnownMessage (facts_of H.opening.contents) (K.asks own).message }
         ensures legal { IsLegalSince H.opening (K.turns self.new.keeper) }
-        ensures turn { IfOk result (λ made.
-            IsAdded (K.turns self.old.keeper) (K.turns self.new.keeper) (K.asks own) made) }
+        ensures turn { IfOk result (λ r.
+            IsAdded (K.turns self.old.keeper) (K.turns self.new.keeper) (K.asks own) r.0
+            × K.covers r.1 (K.turns self.new.keeper)) }
         ensures holds { OnOk result (HoldsLast (K.turns self.old.keeper) receipts.now) }
         ensures share { OnOk result
             ((share.new.parts ≡ share.old.parts) × (share.new.amount ≡ share.old.amount + 1)) }
@@ -112,8 +113,9 @@ impl<H: House, A: Allocator, Q: Drop, K: Keeper<A, Q>> HallState<H, A, Q, K> {
             });
         }
         let turn = keeper.take(own)?;
+        let ticket = keeper.ticket();
         book.add(share, 1);
-        Ok(turn)
+        Ok((turn, ticket))
     }
 
     /// Lends the journal to a reader, where it holds the last of these receipts.
@@ -145,6 +147,51 @@ impl<H: House, A: Allocator, Q: Drop, K: Keeper<A, Q>> HallState<H, A, Q, K> {
             });
         }
         self.show(reader)
+    }
+
+    /// Lends the journal to a reader, as `look`: the ticket of the turns that it saw.
+    ///
+    /// # Errors
+    /// Those of `look`.
+    pub(crate) fn look_with<L: Look<A>>(
+        &self,
+        receipts: &[StoredReceipt<A>],
+        reader: &mut L,
+    ) -> Result<K::Ticket, TurnFault>
+        requires fits { L.fits reader.old H.opening.contents }
+        ensures saw { OnOk result ((book : JournalBook)
+            × HasGoneOn H.opening (K.turns self.now.keeper) book × L.saw reader.old book reader.new) }
+        ensures ticket { IfOk result (λ t. K.covers t (K.turns self.now.keeper)) }
+        ensures legal { IsLegalSince H.opening (K.turns self.now.keeper) }
+        ensures holds { OnOk result (HoldsLast (K.turns self.now.keeper) receipts.now) }
+        ensures why { IfErr result (IsLookFault K.faults (λ front.
+            (front ≡ length (K.turns self.now.keeper))
+            × LacksLast (K.turns self.now.keeper) receipts.now)) }
+        ensures err { OnErr result (reader.new ≡ reader.old) }
+    {
+        match self.look(receipts, reader) {
+            Ok(()) => Ok(self.keeper.ticket()),
+            Err(why) => Err(why),
+        }
+    }
+
+    /// Lends the journal to a reader, as `show`: the ticket of the turns that it saw.
+    ///
+    /// # Errors
+    /// Those of `show`.
+    pub(crate) fn show_with<L: Look<A>>(&self, reader: &mut L) -> Result<K::Ticket, TurnFault>
+        requires fits { L.fits reader.old H.opening.contents }
+        ensures saw { OnOk result ((book : JournalBook)
+            × HasGoneOn H.opening (K.turns self.now.keeper) book × L.saw reader.old book reader.new) }
+        ensures ticket { IfOk result (λ t. K.covers t (K.turns self.now.keeper)) }
+        ensures legal { IsLegalSince H.opening (K.turns self.now.keeper) }
+        ensures why { IfErr result (IsLookFault K.faults (λ front. ⊥)) }
+        ensures err { OnErr result (reader.new ≡ reader.old) }
+    {
+        match self.show(reader) {
+            Ok(()) => Ok(self.keeper.ticket()),
+            Err(why) => Err(why),
+        }
     }
 
     /// Lends the journal to a reader.

@@ -10,6 +10,7 @@ mod receipt;
 mod seat;
 mod stored_receipt;
 mod tickets;
+mod untold;
 
 pub use crate::counter::Counter;
 pub use crate::hall::{Closed, Hall, NotClosed};

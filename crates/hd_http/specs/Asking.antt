@@ -1,7 +1,9 @@
 -- What a request's head asks for.
-use Rattle.std.specs.Prelude.{ℕ, Bool, not, ◌&&◌, ◌||◌, List, Option, Some, None, codes, if◌then◌else◌}
+use Rattle.std.specs.Prelude.{ℕ, Bool, not, ◌&&◌, ◌||◌, List, [], ◌∷◌, Option, Some, None, codes}
+use Rattle.std.specs.Prelude.{if◌then◌else◌}
 use Rattle.std.specs.List.{list_any}
 use Rattle.std.specs.Str.{bytes_eq, str_eq_ignore_ascii_case}
+use Rattle.hd_lists.specs.Numbers.{number_in}
 use Rattle.hd_http.specs.declared.asking.Told.{Told}
 use Rattle.hd_http.specs.declared.reply.Method.{Method}
 use Rattle.hd_http.specs.declared.reply.Method.TheVariants.{Get, Head}
@@ -27,11 +29,35 @@ refused_method stop method =
 unfoldable pub is_called : List ℕ → List ℕ → Bool
 is_called name called = str_eq_ignore_ascii_case called name
 
+-- a field of this name says that a body comes in a coding of its own, so that its length isn't told
+abbrev pub is_coding : List ℕ → Bool
+is_coding name = is_called (codes "transfer-encoding") name
+
+abbrev pub tells_coding : List ℕ × List ℕ → Bool
+tells_coding field = is_coding field.0
+
+-- a field of this name tells a body's length
+unfoldable pub is_length : List ℕ → Bool
+is_length name = is_called (codes "content-length") name
+
+-- what the first field says that tells a body's length
+abbrev pub length_value : List (List ℕ × List ℕ) → Option (List ℕ)
+length_value [] = None
+length_value (field ∷ fields) = if is_length field.0 then Some field.1 else length_value fields
+
+-- how many bytes a body has, where that is a number: 0 where no field tells its length
+abbrev pub length_in : Option (List ℕ) → Option ℕ
+length_in None = Some 0
+length_in (Some value) = number_in value
+
+abbrev pub length_told : List (List ℕ × List ℕ) → Option ℕ
+length_told fields = length_in (length_value fields)
+
 -- a field that says that a body follows
 abbrev pub tells_body : List ℕ × List ℕ → Bool
 tells_body field =
-    is_called (codes "transfer-encoding") field.0
-    || (is_called (codes "content-length") field.0 && not (bytes_eq field.1 (codes "0")))
+    is_coding field.0
+    || (is_length field.0 && not (bytes_eq field.1 (codes "0")))
 
 -- a field by which a browser says which page asks, as no other client does
 abbrev pub is_page_name : List ℕ → Bool
@@ -42,7 +68,12 @@ tells_page field = is_page_name field.0
 
 -- what the fields of a request tell
 abbrev pub told_by : List (List ℕ × List ℕ) → Told
-told_by fields = record { has_body = list_any tells_body fields; is_of_page = list_any tells_page fields }
+told_by fields = record {
+  has_body = list_any tells_body fields;
+  is_coded = list_any tells_coding fields;
+  length = length_told fields;
+  is_of_page = list_any tells_page fields;
+}
 
 -- how a request is refused whose method is allowed: with a body, and where a page asks for a stop
 abbrev pub refused_fields : Bool → Told → Option Status

@@ -3,9 +3,11 @@ pub mod Answers
 pub mod Asking
 pub mod Faults
 pub mod Heads
+pub mod Lines
 pub mod Metered
 pub mod Metrics
 pub mod Places
+pub mod Playing
 pub mod Replies
 pub mod Seen
 pub mod Shows

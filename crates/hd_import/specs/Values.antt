@@ -10,17 +10,25 @@ use Rattle.hd_import.specs.declared.column.Column.TheVariants as column
 use Rattle.hd_import.specs.declared.column.Sheet.{Sheet}
 use Rattle.hd_import.specs.declared.settings.Settings.{Settings}
 
--- whether a heading is that of a column, in small letters or in capitals
-abbrev pub is_heading : Column → List ℕ → Bool
-is_heading column text = str_eq_ignore_ascii_case text (heading_of column)
+-- whether a text is a heading, in small letters or in capitals
+abbrev pub is_heading : List ℕ → List ℕ → Bool
+is_heading heading text = str_eq_ignore_ascii_case text heading
 
--- the place of a column: that of the first such heading
+-- the place of a heading: the first where it stands
+abbrev pub place_under : Row → List ℕ → Option ℕ
+place_under headings heading = position (is_heading heading) headings
+
 abbrev pub place_of : Row → Column → Option ℕ
-place_of headings column = position (is_heading column) headings
+place_of headings column = place_under headings (heading_of column)
 
--- what a row has in a column: nothing, where no heading is that of the column or the row ends before it
+-- what a row has under a heading: nothing, where the heading isn't there or the row ends before it
+abbrev pub value_under : Row → Row → List ℕ → List ℕ
+value_under headings row heading =
+    option_map_or (λ place. slice_index_or row place []) (place_under headings heading) []
+
+-- what a row has in a column
 abbrev pub given : Row → Row → Column → List ℕ
-given headings row column = option_map_or (λ place. slice_index_or row place []) (place_of headings column) []
+given headings row column = value_under headings row (heading_of column)
 
 -- a number that is told, in decimal digits
 abbrev pub number_told : Option ℕ → List ℕ

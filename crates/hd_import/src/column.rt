@@ -79,7 +79,7 @@ impl Sheet {
     }
 
     /// The first of them, in which a row has the name of what it is of.
-    pub(crate) fn first_column(self) -> Column
+    pub fn first_column(self) -> Column
         ensures { result ≡ first_column self }
     {
         self.columns()[0]

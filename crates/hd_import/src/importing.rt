@@ -92,6 +92,26 @@ fn lines_of_sheets<'a>(
     Ok(Lines { text, counts })
 }
 
+/// The rows of a sheet's file, the headings first. Rows without a value aren't among them.
+///
+/// # Errors
+/// The file isn't in its encoding; a quote isn't closed; out of memory.
+pub fn rows_of<'a>(
+    alloc: Global,
+    format: Format,
+    file: Source<'a>,
+) -> Result<Vec<StringRecord>, Fault<'a>>
+    ensures rows { IfOk result
+        (λ rows. AreRowsOfFile format file.entry.bytes.now (map fields_of rows.items)) }
+    ensures refused { IfErr result
+        (λ fault. (settings : Settings) (sheet : Sheet) → IsSheetFault settings format sheet file.entry fault) }
+{
+    match rows_of_file(alloc, format, file.bytes) {
+        Ok(rows) => Ok(rows),
+        Err(fault) => Err(fault_of_file(format, file, fault)),
+    }
+}
+
 /// Appends the lines of a sheet, and returns how many rows it has.
 fn put_sheet<'a>(
     alloc: Global,

@@ -17,7 +17,8 @@
 //! number that a row lacks is that of the settings, and a priority that it lacks is `N`.
 //!
 //! [`import`] gives the text and the catalogue that it was read back as, or the first fault, by file, line
-//! and column. [`unused_headings`] gives the headings of the columns that it passed over.
+//! and column. [`unused_headings`] gives the headings of the columns that it passed over. [`rows_of`] and
+//! [`value_under`] read any other sheet by the same rules.
 #![tactic(auto)]
 
 mod column;
@@ -37,7 +38,10 @@ mod writing;
 pub use crate::column::{Column, Sheet, all_sheets};
 pub use crate::fault::{Fault, Place};
 pub use crate::format::{Encoding, Format};
-pub use crate::importing::{Imported, import};
+pub use crate::importing::{Imported, import, rows_of};
 pub use crate::settings::Settings;
 pub use crate::sources::{Source, Sources};
+pub use crate::tracing::line_of_row;
 pub use crate::unused::unused_headings;
+pub use crate::values::{has_heading, value_under};
+pub use crate::writing::unfit_column;

@@ -162,7 +162,7 @@ fn file_with<'a>(sources: &Sources<'a>, column: Column) -> Source<'a>
 }
 
 /// The line of a file in which a row begins, from 1.
-pub(crate) fn line_of_row(format: Format, bytes: &[u8], row: &StringRecord) -> usize {
+pub fn line_of_row(format: Format, bytes: &[u8], row: &StringRecord) -> usize {
     let start = match row.position() {
         Some(position) => position.byte() as usize,
         None => 0,

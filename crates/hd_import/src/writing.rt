@@ -1,18 +1,19 @@
 //! Writes the lines of rows.
-ghost use Rattle.std.specs.Prelude.{◌≡◌, ◌<◌, ◌∷◌, ◌++◌, [], All, IfErr, OnOk, length, map, true};
+ghost use Rattle.std.specs.Prelude.{◌≡◌, ◌<◌, ◌∷◌, ◌++◌, [], All, IfErr, IfNone, IfOk, IfSome, OnOk, length};
+ghost use Rattle.std.specs.Prelude.{map, true};
 ghost use Rattle.std.specs.Prelude.{string_bytes};
 ghost use Rattle.csv.specs.Records.{fields_of};
 ghost use Rattle.hd_import.specs.Columns.{columns_of, is_fit};
 ghost use Rattle.hd_import.specs.Texts.{first_line, is_fit_row, line_of, text_of_rows};
 ghost use Rattle.hd_import.specs.Values.{value_of};
-ghost use Rattle.hd_import.specs.Faults.{IsLineFault, IsRowFault, IsValueFault};
+ghost use Rattle.hd_import.specs.Faults.{IsLineFault, IsRowFault, IsUnfit, IsValueFault};
 
 use crate::column::{Column, Sheet};
 use crate::settings::Settings;
 use crate::values::{given, otherwise};
 use csv::StringRecord;
 use itoa::Buffer;
-use std::alloc::AllocError;
+use std::alloc::{AllocError, Global};
 
 /// Why the line of a row can't be written.
 #[derive(Clone, Copy, PartialEq, Eq, Debug)]
@@ -66,6 +67,30 @@ pub(crate) fn put_rows(
         }
     }
     Ok(())
+}
+
+/// The first column in which the catalogue doesn't take what a row says, if there is one.
+///
+/// # Errors
+/// Out of memory.
+pub fn unfit_column(
+    alloc: Global,
+    settings: &Settings<'_>,
+    sheet: Sheet,
+    headings: &StringRecord,
+    row: &StringRecord,
+) -> Result<Option<Column>, AllocError>
+    ensures fit { IfOk result (λ found. IfNone found
+        (is_fit_row settings.now sheet (fields_of headings.now) (fields_of row.now) ≡ true)) }
+    ensures unfit { IfOk result (λ found. IfSome found
+        (IsUnfit settings.now sheet (fields_of headings.now) (fields_of row.now))) }
+{
+    let mut line = String::new(alloc);
+    match put_row(&mut line, settings, sheet, headings, row) {
+        Ok(()) => Ok(None),
+        Err(RowFault::Value(column)) => Ok(Some(column)),
+        Err(RowFault::Memory) => Err(AllocError),
+    }
 }
 
 /// Appends the line of a row.

@@ -9,7 +9,7 @@ use crate::turn::{Turn, TurnRef};
 use hd_catalogue::Catalogue;
 use hd_rules::{Ask, SeatNo};
 use std::alloc::{AllocError, Allocator};
-use std::sync::Arc;
+use std::sync::{Arc, Wait};
 
 impl<A: Allocator + Copy> Office<A> for Journal<A> {
     ghost use Rattle.std.specs.Prelude.{◌≡◌, [], length};
@@ -81,6 +81,19 @@ impl<A: Allocator + Copy> Keeper<A, OwnedAsk<A>> for Journal<A> {
 
     /// It always shows it.
     ghost shut = { λ journal. None };
+
+    /// Nobody waits: its turns are in memory alone.
+    type Ticket = ();
+
+    ghost covers = { λ ticket turns. Unit {0} };
+
+    ghost safe = { λ turns. Unit {0} };
+
+    fn ticket(&self) {}
+
+    fn settle<R: Wait>(_rt: &R, _ticket: ()) -> Result<(), WriteFault> {
+        Ok(())
+    }
 
     fn own(alloc: A, ask: &Ask<'_>) -> Result<OwnedAsk<A>, AllocError> {
         OwnedAsk::of(alloc, ask)

@@ -3,7 +3,7 @@
 ghost use Rattle.std.specs.Prelude.{◌≡◌, List, None, Option, Some, IfErr, IfOk, IsOk, OnErr, OnOk, length};
 ghost use Rattle.std.specs.Prelude.{option_map};
 ghost use Rattle.std.specs.Arc.{arc_value};
-ghost use Rattle.hd_rules.specs.Journal.{Turn};
+ghost use Rattle.hd_rules.specs.Journal.{Turn, Turn as TurnValue};
 ghost use Rattle.hd_catalogue.specs.Contents.{facts_of};
 ghost use Rattle.hd_rules.specs.Messages.{IsKnownMessage, SeatMessage, message_of};
 ghost use Rattle.hd_journal.specs.Books.{Book, turn_numbered};
@@ -22,7 +22,7 @@ use crate::turn::{Turn, TurnRef};
 use hd_catalogue::Catalogue;
 use hd_rules::Ask;
 use std::alloc::{AllocError, Allocator};
-use std::sync::Arc;
+use std::sync::{Arc, Wait};
 
 /// What has the turns of a legal journal, and returns them by their numbers.
 pub trait Turns {
@@ -58,6 +58,27 @@ pub trait Keeper<A: Allocator, Q: Drop>: Turns {
 
     /// Why it shows its journal no more, where it doesn't: a turn couldn't be written.
     ghost shut: { Self → Option WriteFault };
+
+    /// What a caller waits for, with no lock held, before it answers with turns of this keeper.
+    type Ticket: Drop;
+
+    /// That a ticket is of these turns.
+    ghost covers: { Self.Ticket → List Turn → Type 0 };
+
+    /// That these turns may be answered.
+    ghost safe: { List Turn → Type 0 };
+
+    /// The ticket of the turns that it has.
+    fn ticket(&self) -> Self::Ticket
+        ensures { covers result (Self.turns self.now) };
+
+    /// Waits until the turns of a ticket may be answered.
+    ///
+    /// # Errors
+    /// Why they never may be: a turn couldn't be written.
+    fn settle<R: Wait>(rt: &R, ticket: Self::Ticket) -> Result<(), WriteFault>
+        ensures safe { OnOk result ((turns : List TurnValue) → covers ticket turns → safe turns) }
+        ensures why { IfErr result (λ why. faults (Unwritten why)) };
 
     /// What it keeps of an ask.
     ///

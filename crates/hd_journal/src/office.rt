@@ -1,5 +1,5 @@
 //! Offices.
-ghost use Rattle.std.specs.Prelude.{◌≡◌, ℕ, List, IfErr, IfOk, OnErr, OnOk};
+ghost use Rattle.std.specs.Prelude.{◌≡◌, ◌⊎◌, ℕ, List, IfErr, IfOk, OnErr, OnOk};
 ghost use Rattle.hd_rules.specs.Journal.{Turn};
 ghost use Rattle.hd_catalogue.specs.Contents.{facts_of};
 ghost use Rattle.hd_rules.specs.Messages.{IsKnownMessage, message_of};
@@ -51,7 +51,8 @@ pub trait Office<A: Allocator> {
     /// Lends the journal to a reader. No turn is made, and no memory is taken.
     ///
     /// # Errors
-    /// Those of `faults` but memory, each for its cause. The reader is as it was.
+    /// Those of `faults` but memory, each for its cause. The reader may have seen turns that were never
+    /// committed: drop it.
     fn look<L: Look<A>>(&self, reader: &mut L) -> Result<(), TurnFault>
         requires fits { L.fits reader.old (keeps self.now).contents }
         ensures saw { OnOk result ((book : Book) × IsJournalOf (keeps self.now).contents book
@@ -59,7 +60,8 @@ pub trait Office<A: Allocator> {
         ensures why { IfErr result faults }
         ensures no_memory { IfErr result IsNotMemory }
         ensures cause { IfErr result (causes self.now self.now) }
-        ensures err { OnErr result (reader.new ≡ reader.old) };
+        ensures err { OnErr result ((reader.new ≡ reader.old) ⊎ ((book : Book)
+            × L.saw reader.old book reader.new)) };
 
     /// Makes one turn of what a terminal asks at this seat, and returns its number and its reply. The terminal,
     /// and all that it asks, are of the office's catalogue.

@@ -1,7 +1,9 @@
 -- What a file holds, and what a crash leaves of it.
 use Rattle.std.proofs.Common.{◌≡◌, refl, sym, ◌∙◌, ap, ℕ, ◌+◌, Bool, true, false, IfSome, IsTrue, List, []}
-use Rattle.std.proofs.Common.{◌∷◌, ◌++◌, inr, map, rules, Option, Some}
+use Rattle.std.proofs.Common.{◌∷◌, ◌++◌, ◌⊎◌, inl, inr, map, rules, Option, Some}
+use Rattle.sqlite.specs.Held.{Held, state}
 use Rattle.sqlite.specs.Recovery.{Image}
+use Rattle.sqlite_trees.specs.declared.store.Store.{Ghosts as StoreGhosts}
 use Rattle.sqlite.specs.State.{State, HasCleanDisk}
 use Rattle.sqlite.specs.Tree.{Trees}
 use Rattle.hd_rules.specs.Turns.{Message, State as Machine, start}
@@ -11,13 +13,13 @@ use Rattle.hd_rules.specs.declared.replies.TurnReply.{TurnReply}
 use Rattle.hd_catalogue.specs.Contents.{Contents, facts_of}
 use Rattle.hd_journal.specs.declared.fault.WriteFault.{WriteFault}
 use Rattle.hd_journal.specs.declared.fault.WriteFault.TheVariants.{Memory}
-use Rattle.hd_turn_row.specs.Rows.{AreTurnRows, IsRowOf, IsTurnRow}
+use Rattle.hd_turn_row.specs.Rows.{AreTurnRows, IsRowOf}
 use Rattle.hd_turn_store.specs.Holds.{Holds}
 use Rattle.hd_turn_store.specs.Kept.{KeptTurn, Head, cells}
 use Rattle.hd_turn_store.specs.Rows.{read_cells}
 use Rattle.hd_turn_store.specs.Tables.{Stores, numbered_from}
 use Rattle.hd_journal_file.specs.Held.{AreInFile, HasTurns, HoldsJournal, IsReliable, LeavesTurns}
-use Rattle.hd_journal_file.specs.Refused.{IsRefusedBy, RefusesTurn}
+use Rattle.hd_journal_file.specs.Refused.{HasNoRow, IsRefusedBy, RefusesTurns}
 use Rattle.hd_journal_file.specs.Opening.{AreFound, AreLeftOf, wanted_head}
 use Rattle.hd_journal_file.specs.declared.opening.Wanted.{Wanted}
 
@@ -111,26 +113,33 @@ pub earlier : {image : Image} {is_new : Bool} {old new : State} → (HasCleanDis
     → IsReliable image is_new new → IsReliable image is_new old
 earlier clean reliable = record { clean = clean reliable.clean; found = reliable.found }
 
--- a turn more, and its row
-abbrev pub one_more : {k : Contents} {turns : List Turn} {turn : Turn} {row : KeptTurn}
-    {P Q : Head → List KeptTurn → Type 0} → ((format : ℕ) → IsTurnRow k format turn row)
-    → IsLegal (facts_of k) (turns ++ turn ∷ []) → (it : AreInFile k turns P) → Q it.head (it.rows ++ row ∷ [])
-    → AreInFile k (turns ++ turn ∷ []) Q
-one_more {k} {turns} {turn} {row} is legal it keeps = record {
+-- more turns, and their rows
+abbrev pub with_more : {k : Contents} {turns : List Turn} (more : List Turn) (rows : List KeptTurn)
+    {P Q : Head → List KeptTurn → Type 0} → ((format : ℕ) → AreTurnRows k format more rows)
+    → IsLegal (facts_of k) (turns ++ more) → (it : AreInFile k turns P) → Q it.head (it.rows ++ rows)
+    → AreInFile k (turns ++ more) Q
+with_more {k} {turns} more rows are legal it keeps = record {
   legal = legal;
   head = it.head;
-  rows = it.rows ++ row ∷ [];
+  rows = it.rows ++ rows;
   keeps = keeps;
-  are = rows_join k it.head.format turns (turn ∷ []) it.rows (row ∷ []) it.are (is it.head.format, tt);
+  are = rows_join k it.head.format turns more it.rows rows it.are (are it.head.format);
 }
 
--- why that isn't committed
-pub unwritten : {C : Type 0} (shown : C → State) {k : Contents} (old new : C) {turn : Turn} {row : KeptTurn}
-    → ((format : ℕ) → IsTurnRow k format turn row) → (fault : WriteFault)
-    → (HasCleanDisk (shown new) → IsRefusedBy (shown old) (shown new) row fault)
-    → RefusesTurn shown k old turn new fault
-unwritten shown old new is Memory refused = inr (_, is, refused)
-unwritten shown old new is fault refused = inr (_, is, refused)
+-- why they aren't committed
+pub unwritten : {S : Type 0} (g : StoreGhosts S) (k : Contents) (old new : Held S) (turns : List Turn)
+    (rows : List KeptTurn) → ((format : ℕ) → AreTurnRows k format turns rows) → (fault : WriteFault)
+    → (HasCleanDisk (state g new) → IsRefusedBy g old new rows fault)
+    → RefusesTurns g k old turns new fault
+unwritten g k old new turns rows are Memory refused = inr (rows, are, refused)
+unwritten g k old new turns rows are fault refused = inr (rows, are, refused)
+
+-- why their rows aren't made
+pub rowless : {S : Type 0} (g : StoreGhosts S) (k : Contents) (c : Held S) (turns : List Turn)
+    (fault : WriteFault) → (fault ≡ Memory) ⊎ HasNoRow turns fault → RefusesTurns g k c turns c fault
+rowless g k c turns Memory why = inl refl
+rowless g k c turns fault (inl is) = cc
+rowless g k c turns fault (inr none) = inl none
 
 -- what was kept is opened
 pub opened_is_kept : (one : OneMessage) {k : Contents} {s now : State} {left : Image} {wanted : Wanted}

@@ -1,6 +1,6 @@
-//! A row more, as a turn more.
+//! More rows, as more turns.
 
-ghost use Rattle.std.specs.Prelude.{◌≡◌, ◌++◌, ◌∷◌, [], IfErr, IsOk, List};
+ghost use Rattle.std.specs.Prelude.{◌≡◌, ◌++◌, IfErr, IsOk, List, map};
 ghost use Rattle.sqlite.specs.State.{HasCleanDisk};
 ghost use Rattle.sqlite.specs.Held.{state};
 ghost use Rattle.sqlite.specs.Tree.{Trees};
@@ -15,7 +15,7 @@ ghost use Rattle.hd_journal_file.specs.Refused.{IsRefusedBy, write_fault};
 
 use hd_journal::WriteFault;
 use hd_turn_row::a_row_is_of_one_message;
-use hd_turn_store::{Alter, Connection, TurnRow, a_turn_is_read_of_its_values, append};
+use hd_turn_store::{Alter, Connection, TurnRow, a_turn_is_read_of_its_values, append_all};
 use sqlite::{Error as SqlError, ErrorCode};
 
 /// A crash leaves of a journal's file what the connection sees, and nothing else: a database has the rows of
@@ -33,19 +33,22 @@ pub(crate) fn a_crash_leaves_what_is_seen<S: Alter>(_conn: &Connection<S>)
     a_turn_is_read_of_its_values();
 }
 
-/// Commits the row of a turn more.
+/// Commits these rows behind all others, together.
 ///
 /// # Errors
-/// Why it can't be written. A crash may then leave the turn or not.
-pub(crate) fn add<S: Alter>(conn: &mut Connection<S>, row: &TurnRow<'_>) -> Result<(), WriteFault>
+/// Why they can't be written. A crash may then leave all of them or none.
+pub(crate) fn add_all<S: Alter>(
+    conn: &mut Connection<S>,
+    rows: &[TurnRow<'_>],
+) -> Result<(), WriteFault>
     ensures clean { HasCleanDisk (state S.Store conn.new) → HasCleanDisk (state S.Store conn.old) }
     ensures adds { HasCleanDisk (state S.Store conn.new) → (head : Head) (ks : List KeptTurn)
-        → Holds (state S.Store conn.old) head ks → Commits (IsOk result) head (ks ++ kept row.now ∷ [])
+        → Holds (state S.Store conn.old) head ks → Commits (IsOk result) head (ks ++ map kept rows.now)
         (state S.Store conn.old) (state S.Store conn.new) }
-    ensures why { IfErr result (λ fault. HasCleanDisk (state S.Store conn.new) → IsRefusedBy
-        (state S.Store conn.old) (state S.Store conn.new) (kept row.now) fault) }
+    ensures why { IfErr result (λ fault. HasCleanDisk (state S.Store conn.new)
+        → IsRefusedBy S.Store conn.old conn.new (map kept rows.now) fault) }
 {
-    match append(conn, row) {
+    match append_all(conn, rows) {
         Ok(()) => Ok(()),
         Err(error) => Err(told(error)),
     }

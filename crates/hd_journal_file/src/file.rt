@@ -6,14 +6,13 @@ ghost use Rattle.sqlite.specs.Held.{state};
 ghost use Rattle.sqlite.specs.WalFiles.{image_at};
 ghost use Rattle.hd_rules.specs.Journal.{Turn};
 ghost use Rattle.hd_journal_file.specs.Held.{HoldsJournal, IsReliable, MayLeave};
-ghost use Rattle.hd_journal_file.specs.Refused.{RefusesTurn};
+ghost use Rattle.hd_journal_file.specs.Refused.{RefusesTurns};
 
-use crate::adding::{a_crash_leaves_what_is_seen, add};
-use crate::telling::turn_row;
+use crate::adding::{a_crash_leaves_what_is_seen, add_all};
+use crate::telling::{columns_of, rows_of};
 use hd_catalogue::Catalogue;
 use hd_durable::TurnTable;
 use hd_journal::{TurnRef, WriteFault};
-use hd_turn_row::{AskedColumns, OutcomeColumns};
 use hd_turn_store::{Alter, Connection, Start};
 use std::alloc::{Allocator, Global};
 use std::marker::PhantomData;
@@ -115,19 +114,16 @@ impl<S: Alter, F: Start, A: Allocator + Copy> TurnTable for JournalFile<S, F, A>
     ghost leaves = { λ file. MayLeave (image_at F.Start) file.is_new (arc_value file.catalogue)
         (state S.Store file.conn) };
 
-    ghost refuses = { λ old turn new fault. RefusesTurn (state S.Store) (arc_value old.catalogue) old.conn
-        turn new.conn fault };
+    ghost refuses = { λ old turns new. RefusesTurns S.Store (arc_value old.catalogue) old.conn turns
+        new.conn };
 
-    fn commit(&mut self, turn: &TurnRef<'_>) -> Result<(), WriteFault> {
+    fn commit(&mut self, turns: &[TurnRef<'_>]) -> Result<(), WriteFault> {
         a_crash_leaves_what_is_seen(&self.conn);
-        let Ok(came) = OutcomeColumns::of(self.alloc, &turn.reply) else {
+        let columns = columns_of(self.alloc, turns)?;
+        let Ok(rows) = rows_of(self.alloc, &self.catalogue, turns, columns.as_slice()) else {
             return Err(WriteFault::Memory);
         };
-        let Some(asked) = AskedColumns::of(&turn.asked) else {
-            return Err(WriteFault::Refused);
-        };
-        let row = turn_row(&self.catalogue, turn, &asked, &came);
-        add(&mut self.conn, &row)?;
+        add_all(&mut self.conn, rows.as_slice())?;
         a_crash_leaves_what_is_seen(&self.conn);
         Ok(())
     }

@@ -90,13 +90,15 @@ impl<'a, R: Wait, H: House, A: Allocator + Copy, Q: Drop, K: Keeper<A, Q> + Drop
     /// Has a reader look at the journal.
     ///
     /// # Errors
-    /// `Shut` alone, where the hall shows its journal no more. The reader is as it was.
+    /// `Shut` alone, where the hall shows its journal no more, or a turn that it showed couldn't be written.
+    /// The reader may have seen that journal: only whether it is shut is told of it.
     fn look_at<L: Look<A>>(&self, reader: &mut L) -> Result<(), ViewFault>
         requires fits { L.fits reader.old H.opening.contents }
         ensures saw { OnOk result ((book : Book) × IsShownTo H.opening [] book
             × L.saw reader.old book reader.new) }
         ensures shut { IfErr result (λ fault. (fault ≡ ViewFault.Shut) × MayShut K.faults) }
-        ensures same { OnErr result (reader.new ≡ reader.old) }
+        ensures err { OnErr result ((reader.new ≡ reader.old) ⊎ ((book : Book)
+            × L.saw reader.old book reader.new)) }
     {
         match self.hall.look(self.rt, reader) {
             Ok(()) => Ok(()),

@@ -6,6 +6,8 @@ use Rattle.hd_log.specs.declared.event.Event.{Event}
 use Rattle.hd_log.specs.declared.event.Event.TheVariants as events
 use Rattle.hd_log.specs.declared.event.ConnectionEvent.{ConnectionEvent}
 use Rattle.hd_log.specs.declared.event.ConnectionEvent.TheVariants as at
+use Rattle.hd_log.specs.declared.event.Lines.{Lines}
+use Rattle.hd_log.specs.declared.event.Lines.TheVariants as lines
 use Rattle.hd_log.specs.declared.event.Refused.{Refused}
 use Rattle.hd_log.specs.declared.event.Refused.TheVariants as refused
 use Rattle.hd_log.specs.declared.event.End.{End}
@@ -47,6 +49,15 @@ end_word end.Descriptor = codes "no_descriptor"
 end_word end.Seat = codes "no_seat"
 end_word end.Estranged = codes "estranged"
 end_word end.Unwritten = codes "journal_unwritten"
+
+-- how it went with lines that were to be played as a terminal
+abbrev pub lines_word : Lines → List ℕ
+lines_word lines.Played = codes "played"
+lines_word lines.LongLine = codes "long_line"
+lines_word lines.CutOff = codes "cut_off"
+lines_word lines.UnknownTerminal = codes "unknown_terminal"
+lines_word lines.Stop = codes "stop"
+lines_word lines.Seat = codes "no_seat"
 
 -- the fields of what was sent at a connection: of it, what is told
 abbrev pub sent_fields : Field → Field → List ℕ → List Field
@@ -91,6 +102,12 @@ connection_fields by at.ResendRequested = named (codes "resend_requested") ∷ b
 connection_fields by (at.Line sent) = sent_fields (named (codes "line")) by sent.now
 connection_fields by (at.Reply sent) = sent_fields (named (codes "reply")) by sent.now
 
+-- of lines that were to be played as the terminal of this name: how it went, and how many were answered
+abbrev pub lines_fields : List ℕ → Lines → ℕ → List Field
+lines_fields terminal how messages =
+    named (codes "lines") ∷ text (codes "terminal") terminal ∷ word (codes "how") (lines_word how)
+    ∷ number (codes "messages") messages ∷ []
+
 -- of what can't be done: what of it is told, and why
 abbrev pub cannot_fields : List ℕ → Field → List ℕ → List Field
 cannot_fields name about why = named name ∷ about ∷ text (codes "why") why ∷ []
@@ -116,6 +133,7 @@ event_fields (events.FewWorkers started wanted) =
 event_fields (events.Unwritten why) = named (codes "journal_unwritten") ∷ text (codes "why") why.now ∷ []
 event_fields (events.Zone file offset) =
     named (codes "zone") ∷ text (codes "file") file.now ∷ word (codes "offset") offset.now ∷ []
+event_fields (events.Lines terminal how messages) = lines_fields terminal.now how messages
 event_fields (events.At connection what) = connection_fields (number (codes "connection") connection) what
 
 -- an event, written

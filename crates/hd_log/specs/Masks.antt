@@ -2,7 +2,7 @@
 -- bar (SIP2 2.00). The fixed part is read by its width, whatever stands there, also a bar. A terminal may err in it:
 -- so up to the first bar behind it a field may begin anywhere, and so it may behind a field of a few bytes, which
 -- needs no bar.
-use Rattle.std.specs.Prelude.{◌≡◌, ◌≤◌, ◌-◌, ◌==◌, ℕ, Bool, true, ◌&&◌, ◌||◌, if◌then◌else◌, nat_lt}
+use Rattle.std.specs.Prelude.{◌≡◌, ◌≤◌, ◌+◌, ◌-◌, ◌==◌, ℕ, Bool, true, ◌&&◌, ◌||◌, if◌then◌else◌, nat_lt}
 use Rattle.std.specs.Prelude.{List, [], ◌∷◌, ◌++◌, Contains, length}
 use Rattle.hd_log.specs.declared.masking.Place.{Place}
 use Rattle.hd_log.specs.declared.masking.Place.TheVariants.{Hidden, Told, Begun, Behind, Searched}
@@ -25,10 +25,16 @@ fixed_part [] = 0
 fixed_part (a ∷ []) = 0
 fixed_part (a ∷ b ∷ text) = width_of a b
 
+-- a letter in capitals or in small letters
+abbrev pub is_letter : ℕ → ℕ → Bool
+is_letter capital byte = byte == capital || byte == capital + 32
+
 -- a field whose value isn't told: AC and AD (a terminal's and a patron's password), CO (a login's), and AE and DA
--- (a patron's name, and that of the one whom a copy is kept for)
+-- (a patron's name, and that of the one whom a copy is kept for), also where a terminal errs in the letters' size
 abbrev pub is_secret : ℕ → ℕ → Bool
-is_secret a b = (a == 65 && (b == 67 || b == 68 || b == 69)) || (a == 67 && b == 79) || (a == 68 && b == 65)
+is_secret a b =
+    (is_letter 65 a && (is_letter 67 b || is_letter 68 b || is_letter 69 b))
+    || (is_letter 67 a && is_letter 79 b) || (is_letter 68 a && is_letter 65 b)
 
 -- a field of a few bytes: BI, BO, BW and BY
 abbrev pub is_short : ℕ → ℕ → Bool

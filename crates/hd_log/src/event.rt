@@ -1,6 +1,6 @@
 //! Events.
 ghost use Rattle.std.specs.Prelude.{◌≡◌};
-ghost use Rattle.hd_log.specs.Events.{end_word, event_level, refusal_word};
+ghost use Rattle.hd_log.specs.Events.{end_word, event_level, lines_word, refusal_word};
 ghost use Rattle.hd_log.specs.declared.event.End.TheVariants.{Memory};
 
 use crate::level::Level;
@@ -63,9 +63,18 @@ pub enum Event<'a> {
         /// The offset, in minutes, as a word: `+60`.
         offset: &'a [u8],
     },
+    /// Lines were played as a terminal, as the door was asked to.
+    Lines {
+        /// The name that was given.
+        terminal: &'a [u8],
+        /// How it went.
+        how: Lines,
+        /// How many lines were answered.
+        messages: u64,
+    },
     /// Something happened at a connection.
     At {
-        /// The connection's number, from 1.
+        /// The connection's number, from 1; 0 of lines that the door brought.
         connection: u64,
         /// What happened.
         what: ConnectionEvent<'a>,
@@ -140,6 +149,23 @@ pub enum ConnectionEvent<'a> {
     },
 }
 
+/// How it went with lines that were to be played as a terminal.
+#[derive(Clone, Copy, Debug, PartialEq, Eq)]
+pub enum Lines {
+    /// They were played.
+    Played,
+    /// They were played up to one that was too long.
+    LongLine,
+    /// They were played up to one whose turn couldn't be made.
+    CutOff,
+    /// No terminal has this name.
+    UnknownTerminal,
+    /// The server ends.
+    Stop,
+    /// No seat was left for them.
+    Seat,
+}
+
 /// Why a login wasn't taken.
 #[derive(Clone, Copy, Debug, PartialEq, Eq)]
 pub enum Refused {
@@ -178,6 +204,22 @@ pub enum End {
     Estranged,
     /// The journal can't be written.
     Unwritten,
+}
+
+impl Lines {
+    /// The word for it.
+    pub(crate) fn word(self) -> &'static [u8]
+        ensures { result.now ≡ lines_word self }
+    {
+        match self {
+            Lines::Played => b"played",
+            Lines::LongLine => b"long_line",
+            Lines::CutOff => b"cut_off",
+            Lines::UnknownTerminal => b"unknown_terminal",
+            Lines::Stop => b"stop",
+            Lines::Seat => b"no_seat",
+        }
+    }
 }
 
 impl Refused {

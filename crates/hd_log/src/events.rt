@@ -1,12 +1,13 @@
 //! Events, written.
 ghost use Rattle.std.specs.Prelude.{◌≡◌, ◌++◌, OnOk, codes};
 ghost use Rattle.hd_log.specs.Events.{cannot_fields, clock_fields, closed_fields, connection_fields};
-ghost use Rattle.hd_log.specs.Events.{event_text, few_fields, from_fields, number, refused_fields};
+ghost use Rattle.hd_log.specs.Events.{event_text, few_fields, from_fields, lines_fields, number};
+ghost use Rattle.hd_log.specs.Events.{refused_fields};
 ghost use Rattle.hd_log.specs.Events.{sent_fields, text, word, named};
 ghost use Rattle.hd_log.specs.Fields.{field_shown};
 ghost use Rattle.hd_log.specs.Lines.{line_text};
 
-use crate::event::{ConnectionEvent, End, Event, Refused};
+use crate::event::{ConnectionEvent, End, Event, Lines, Refused};
 use crate::field::{Field, Value, write_line};
 use crate::masking::mask;
 use std::alloc::{AllocError, Global};
@@ -66,10 +67,34 @@ pub fn write_event(alloc: Global, out: &mut Vec<u8>, event: &Event<'_>) -> Resul
                 &[named(b"zone"), text(b"file", file), word(b"offset", offset)],
             )
         }
+        Event::Lines {
+            terminal,
+            how,
+            messages,
+        } => write_lines(out, terminal, how, messages),
         Event::At { connection, what } => {
             write_at(alloc, out, &number(b"connection", connection), &what)
         }
     }
+}
+
+/// Writes that lines were to be played as a terminal.
+fn write_lines(
+    out: &mut Vec<u8>,
+    terminal: &[u8],
+    how: Lines,
+    messages: u64,
+) -> Result<(), AllocError>
+    ensures { OnOk result (out.new.items
+        ≡ out.old.items ++ line_text (lines_fields terminal.now how messages)) }
+{
+    let about = [
+        named(b"lines"),
+        text(b"terminal", terminal),
+        word(b"how", how.word()),
+        number(b"messages", messages),
+    ];
+    write_line(out, &about)
 }
 
 /// Writes an event of something that can't be done, with this field about it, and why.

@@ -10,7 +10,7 @@ mod laws;
 mod level;
 mod masking;
 
-pub use crate::event::{ConnectionEvent, End, Event, Refused};
+pub use crate::event::{ConnectionEvent, End, Event, Lines, Refused};
 pub use crate::events::write_event;
 pub use crate::laws::{escapes_are_read, lines_are_lines, numbers_are_plain, secrets_are_masked};
 pub use crate::level::Level;

@@ -1,6 +1,6 @@
 //! Secret values.
-ghost use Rattle.std.specs.Prelude.{◌≡◌, ◌++◌, IfOk, OnOk};
-ghost use Rattle.hd_log.specs.Masks.{fixed_part, is_secret, is_short, left_behind, masked, next, shown};
+ghost use Rattle.std.specs.Prelude.{◌≡◌, ◌≤◌, ◌++◌, IfOk, OnOk};
+ghost use Rattle.hd_log.specs.Masks.{fixed_part, is_letter, is_secret, is_short, left_behind, masked, next, shown};
 ghost use Rattle.hd_log.specs.Masks.{width_of};
 
 use std::alloc::{AllocError, Global};
@@ -57,13 +57,22 @@ fn width_of(first: u8, second: u8) -> u8
 }
 
 /// Whether the value of a field is secret: of AC, AD and CO, which are passwords, and of AE and DA, which are
-/// patrons' names.
+/// patrons' names, in capitals or in small letters.
 fn is_secret(first: u8, second: u8) -> bool
     ensures { result ≡ is_secret first second }
 {
-    (first == b'A' && (second == b'C' || second == b'D' || second == b'E'))
-        || (first == b'C' && second == b'O')
-        || (first == b'D' && second == b'A')
+    (is_letter(b'A', first)
+        && (is_letter(b'C', second) || is_letter(b'D', second) || is_letter(b'E', second)))
+        || (is_letter(b'C', first) && is_letter(b'O', second))
+        || (is_letter(b'D', first) && is_letter(b'A', second))
+}
+
+/// Whether a byte is a letter, in capitals or in small letters.
+fn is_letter(capital: u8, byte: u8) -> bool
+    requires { capital ≤ 90 }
+    ensures { result ≡ is_letter capital byte }
+{
+    byte == capital || byte == capital + 32
 }
 
 /// Whether a field has only a few bytes, so that another may begin after it without a bar: BI, BO, BW, BY.

@@ -6,7 +6,7 @@ use hd_date::{Day, OffsetMinutes, print_due, prints_show_their_stamp, read};
 
 /// The day that these bytes write, as `YYYYMMDD`, or `None` where they are that of no day.
 #[tactic(auto, unfolding(crate::specs::Days::day_written))]
-pub(crate) fn read_day(text: &[u8]) -> Option<Day>
+pub fn read_day(text: &[u8]) -> Option<Day>
     ensures { result ≡ day_written text.now }
 {
     if text.len() != 8 {

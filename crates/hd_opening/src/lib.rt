@@ -19,6 +19,7 @@ mod reading;
 mod writing;
 
 pub use crate::cause::{OpeningCause, OpeningFault};
+pub use crate::days::read_day;
 pub use crate::laws::{told_or_refused, what_was_written_is_read};
 pub use crate::limits::MOST_PLACES;
 pub use crate::opening::Opening;

@@ -25,7 +25,7 @@ after-first : (stamp : ℕ) (hs rest : List Hold) → AllAfter stamp (hs ++ rest
 after-first stamp [] rest o = tt
 after-first stamp (h ∷ hs) rest o = (o.0, after-first stamp hs rest o.1)
 
-after-rest : (stamp : ℕ) (hs rest : List Hold) → AllAfter stamp (hs ++ rest) → AllAfter stamp rest
+pub after-rest : (stamp : ℕ) (hs rest : List Hold) → AllAfter stamp (hs ++ rest) → AllAfter stamp rest
 after-rest stamp [] rest o = o
 after-rest stamp (h ∷ hs) rest o = after-rest stamp hs rest o.1
 

@@ -199,3 +199,25 @@ remove-count_before (h ∷ hs) x o once e = elim (cases_Bool (h.patron == x.patr
       count_before-less h hs x.stamp (AllAfter-hold_of h.stamp hs x.patron x o.0 later)
       in remove-cons h hs _ _ at ∙ rw t (ap (λ ks. h ∷ ks) (remove-count_before hs x o.1 once.1 later))
 ]
+
+-- a hold more
+pub length-with_hold : (hs : List Hold) (x : Hold) → length (with_hold hs x) ≡ length hs + 1
+length-with_hold [] x = refl
+length-with_hold (h ∷ hs) x = grind (arith, nat_tests, length-with_hold hs x)
+
+-- the hold of a patron stands within the list
+pub count_before-there : (hs : List Hold) (patron : ℕ) (x : Hold) → IsInOrder hs → hold_of hs patron ≡ Some x
+    → count_before hs x.stamp < length hs
+count_before-there [] patron x o e = absurd (cc e)
+count_before-there (h ∷ hs) patron x o e = elim (cases_Bool (h.patron == patron)) [
+  | inl t ↦
+      let same : h ≡ x = hold_of-first h x hs patron t e
+      in let at : count_before (h ∷ hs) x.stamp ≡ 0 =
+      subst (λ (k : Hold). count_before (h ∷ hs) k.stamp ≡ 0) same (count_before-first h hs o.0)
+      in omega (arith, at)
+  | inr t ↦
+      let later : hold_of hs patron ≡ Some x = hold_of-later h x hs patron t e
+      in let at : count_before (h ∷ hs) x.stamp ≡ count_before hs x.stamp + 1 =
+      count_before-less h hs x.stamp (AllAfter-hold_of h.stamp hs patron x o.0 later)
+      in omega (arith, at, count_before-there hs patron x o.1 later)
+]

@@ -13,7 +13,7 @@ use Rattle.hd_rules.specs.declared.holds.HoldKind.TheVariants.{Any, One, AtBranc
 use Rattle.hd_queue.specs.Holds.{AllAfter, IsInOrder, HasPatronsOnce, HasNoStamp, hold_of, with_hold, without}
 use Rattle.hd_queue.specs.Waiting.{is_one, is_at_branch, names, waits_for_any, waits_for_one, waits_for}
 use Rattle.hd_queue.specs.Waiting.{waits_at_branch, waits_at}
-use Rattle.hd_queue.specs.Waiting.{AreWaiting}
+use Rattle.hd_queue.specs.Waiting.{AreWaiting, HaveWaiting}
 use Rattle.hd_queue.specs.WaitingValue.{IsAbsent, IsListed}
 use Rattle.hd_queue.specs.declared.wanted.Wanted.{Wanted}
 use Rattle.hd_queue.specs.Wanted.{is_picked_up_at, wants_at, wants_hold}
@@ -160,10 +160,6 @@ filter-both p q r same (h ∷ hs) =
       | inr t ↦ let fails : false ≡ r h = sym (rw t) ∙ here in rw (t, sym fails) rest
     ]
 
-and-true : (b : Bool) → (b && true) ≡ b
-and-true true = refl
-and-true false = refl
-
 and-assoc : (a b c : Bool) → ((a && b) && c) ≡ (a && (b && c))
 and-assoc true b c = refl
 and-assoc false b c = refl
@@ -173,15 +169,37 @@ one-names Any copy = refl
 one-names (One other) copy = refl
 one-names AtBranch copy = refl
 
-pub any-wanted : (hs : List Hold) → filter (λ h. true) (filter waits_for_any hs) ≡ filter waits_for_any hs
-any-wanted hs = filter-both (λ h. true) waits_for_any waits_for_any (λ h. and-true (waits_for_any h)) hs
+and-same : (b : Bool) → (b && b) ≡ b
+and-same true = refl
+and-same false = refl
 
-pub copy-wanted : (copy : ℕ) (hs : List Hold) → filter (λ h. names copy h.kind) (filter waits_for_one hs)
-    ≡ filter (waits_for copy) hs
-copy-wanted copy hs =
-    filter-both (λ h. names copy h.kind) waits_for_one (waits_for copy)
-    (λ h. and-assoc (is_none h.copy) (is_one h.kind) (names copy h.kind)
-    ∙ ap (λ b. is_none h.copy && b) (one-names h.kind copy)) hs
+-- the lists by what is waited for have those that wait so
+filter-twice : (p : Hold → Bool) (hs : List Hold) → filter p (filter p hs) ≡ filter p hs
+filter-twice p hs = filter-both p p p (λ h. and-same (p h)) hs
+
+pub HaveWaiting-lists : (hs xs os bs : List Hold) → AreWaiting hs xs os bs → HaveWaiting hs xs os bs
+HaveWaiting-lists hs xs os bs w = record {
+  for_any = rw w.for_any (filter-twice waits_for_any hs);
+  for_one = rw w.for_one (filter-twice waits_for_one hs);
+  for_branch = rw w.for_branch (filter-twice waits_at_branch hs);
+}
+
+-- and so has the list of all
+pub HaveWaiting-all : (hs : List Hold) → HaveWaiting hs hs hs hs
+HaveWaiting-all hs = record { for_any = refl; for_one = refl; for_branch = refl }
+
+waits-within : (none one named : Bool) → (one && named) ≡ named
+    → ((none && one) && (none && named)) ≡ (none && named)
+waits-within true one named e = e
+waits-within false one named e = refl
+
+-- of a list that has those that wait for one copy
+pub copy-wanted : (copy : ℕ) (hs ks : List Hold) → filter waits_for_one ks ≡ filter waits_for_one hs
+    → filter (waits_for copy) ks ≡ filter (waits_for copy) hs
+copy-wanted copy hs ks same =
+    let both = filter-both (waits_for copy) waits_for_one (waits_for copy)
+    (λ h. waits-within (is_none h.copy) (is_one h.kind) (names copy h.kind) (one-names h.kind copy)) in
+    sym (both ks) ∙ ap (filter (waits_for copy)) same ∙ both hs
 
 pub branch-wanted : (branch : ℕ) (hs : List Hold) →
     filter (λ h. h.pickup == branch) (filter waits_at_branch hs) ≡ filter (waits_at branch) hs
@@ -190,14 +208,12 @@ branch-wanted branch hs =
     (λ h. and-assoc (is_none h.copy) (is_at_branch h.kind) (h.pickup == branch)) hs
 
 -- those of a pickup among those that are wanted
-pub copy-wanted-at : (copy branch : ℕ) (hs : List Hold) →
-    filter (λ h. names copy h.kind && is_picked_up_at branch h) (filter waits_for_one hs)
-    ≡ filter (is_picked_up_at branch) (filter (waits_for copy) hs)
-copy-wanted-at copy branch hs =
-    sym (filter-both (is_picked_up_at branch) (λ h. names copy h.kind)
-    (λ h. names copy h.kind && is_picked_up_at branch h) (λ h. refl)
-    (filter waits_for_one hs))
-    ∙ ap (filter (is_picked_up_at branch)) (copy-wanted copy hs)
+pub wanted-at : (wanted : Wanted) (branch : ℕ) (hs ks : List Hold)
+    → filter (wants_hold wanted) ks ≡ filter (wants_hold wanted) hs
+    → filter (wants_at wanted (Some branch)) ks ≡ filter (is_picked_up_at branch) (filter (wants_hold wanted) hs)
+wanted-at wanted branch hs ks same =
+    sym (filter-both (is_picked_up_at branch) (wants_hold wanted) (wants_at wanted (Some branch)) (λ h. refl) ks)
+    ∙ ap (filter (is_picked_up_at branch)) same
 
 -- holds of other pickups are passed over
 

@@ -53,3 +53,9 @@ pub record AreWaiting (holds any one at_branch : List Hold) : Type 0 where
   pub for_any : any ≡ filter waits_for_any holds
   pub for_one : one ≡ filter waits_for_one holds
   pub for_branch : at_branch ≡ filter waits_at_branch holds
+
+-- the lists have the same holds as the title that wait so, in the same order, and maybe others
+pub record HaveWaiting (holds any one at_branch : List Hold) : Type 0 where
+  pub for_any : filter waits_for_any any ≡ filter waits_for_any holds
+  pub for_one : filter waits_for_one one ≡ filter waits_for_one holds
+  pub for_branch : filter waits_at_branch at_branch ≡ filter waits_at_branch holds

@@ -1,18 +1,19 @@
--- Which holds of a list are wanted.
-use Rattle.std.specs.Prelude.{ℕ, Bool, true, ◌&&◌, ◌==◌, Option, None, Some}
+-- Which holds that wait are wanted.
+use Rattle.std.specs.Prelude.{ℕ, Bool, ◌&&◌, ◌==◌, Option, None, Some}
 use Rattle.hd_rules.specs.declared.holds.Hold.{Hold}
 use Rattle.hd_queue.specs.declared.wanted.Wanted.{Wanted}
-use Rattle.hd_queue.specs.declared.wanted.Wanted.TheVariants.{All, Naming}
-use Rattle.hd_queue.specs.Waiting.{names}
+use Rattle.hd_queue.specs.declared.wanted.Wanted.TheVariants.{AnyCopy, CopyOfBranch, OneCopy}
+use Rattle.hd_queue.specs.Waiting.{waits_at_branch, waits_for, waits_for_any}
 
 -- whether a hold is picked up at this branch
 abbrev pub is_picked_up_at : ℕ → Hold → Bool
 is_picked_up_at branch h = h.pickup == branch
 
--- whether a hold is wanted
+-- whether a hold waits, and is wanted
 abbrev pub wants_hold : Wanted → Hold → Bool
-wants_hold All h = true
-wants_hold (Naming copy) h = names copy h.kind
+wants_hold AnyCopy h = waits_for_any h
+wants_hold (OneCopy copy) h = waits_for copy h
+wants_hold CopyOfBranch h = waits_at_branch h
 
 -- whether it is, and its pickup is this branch, if one is given
 abbrev pub wants_at : Wanted → Option ℕ → Hold → Bool

@@ -4,8 +4,10 @@
 mod laws;
 mod lent;
 mod list;
+mod long;
 mod pickup;
 mod queue;
+mod short;
 mod stamps;
 mod view;
 mod waiting;

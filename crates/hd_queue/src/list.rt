@@ -154,7 +154,7 @@ fn chunk_of<A: Allocator>(chunks: &[Chunk<Hold, ByPickup, A>], stamp: u64) -> us
 }
 
 /// How many holds of the slice have a smaller stamp.
-fn before_in(holds: &[Hold], stamp: u64) -> usize
+pub(crate) fn before_in(holds: &[Hold], stamp: u64) -> usize
     requires { IsInOrder holds.now }
     ensures count { result ≡ count_before holds.now stamp }
     ensures within { result ≤ length holds.now }

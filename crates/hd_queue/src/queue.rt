@@ -3,36 +3,36 @@ ghost use Rattle.std.specs.Prelude.{◌≡◌, ◌+◌, ◌<◌, ◌≤◌, ◌^
 ghost use Rattle.hd_queue.specs.Holds.{HasNoStamp, HasPatronsOnce, IsInOrder, count_before, has_stamp};
 ghost use Rattle.hd_queue.specs.Holds.{hold_of, with_hold, without};
 
-use crate::list::HoldList;
-use crate::stamps::Stamps;
+use crate::long::LongQueue;
+use crate::short::ShortQueue;
 use crate::view::QueueView;
-use crate::waiting::WaitingLists;
 use hd_rules::{Hold, PatronNo};
 use std::alloc::{AllocError, Allocator, Global};
 use std::marker::Model;
 
+/// How the holds of a title are kept: few as one list, many with lists and a table beside it.
+#[derive(Drop)]
+enum Form<A: Allocator> {
+    Short(ShortQueue<A>),
+    Long(Box<LongQueue<A>, A>),
+}
+
 /// The holds of one title, at most one a patron, in order of stamp (docs/desk-rules.md, "State").
 ///
-/// Those without a copy are also in lists of their own, by what they wait for. The stamp of each patron's
-/// hold is kept too: by it the hold's place is found without a walk.
+/// Most titles have few holds, and those are one list. A queue that needs room for a ninth hold becomes a
+/// long one, and stays one.
 #[derive(Drop)]
 pub struct Queue<A: Allocator = Global> {
-    list: HoldList<A>,
-    waiting: WaitingLists<A>,
-    stamps: Stamps<A>,
-    /// How many more holds each of the lists and the stamps have room for, at least.
-    room: usize,
+    form: Form<A>,
 }
 
 impl<A: Allocator> Model for Queue<A> {
+    ghost use Rattle.hd_queue.specs.Form.{queue_of};
     ghost use Rattle.hd_queue.specs.QueueValue.{QueueValue};
-    ghost use Rattle.hd_queue.specs.QueueLists.{AreLists};
 
     ghost Value = { QueueValue };
 
-    ghost view = { λ q. record { holds = q.list.holds; room = q.room } };
-
-    ghost invariant = { λ q. AreLists q.list q.waiting q.stamps q.room };
+    ghost view = { λ q. queue_of q.form };
 }
 
 impl<A: Allocator + Copy> Queue<A> {
@@ -41,10 +41,7 @@ impl<A: Allocator + Copy> Queue<A> {
         ensures { result.holds ≡ [] }
     {
         Queue {
-            list: HoldList::new(alloc),
-            waiting: WaitingLists::new(alloc),
-            stamps: Stamps::new(alloc),
-            room: 0,
+            form: Form::Short(ShortQueue::new(alloc)),
         }
     }
 
@@ -57,11 +54,16 @@ impl<A: Allocator + Copy> Queue<A> {
         ensures full { OnErr result (self.old.room < more) }
         ensures room { self.old.room ≤ self.new.room }
     {
-        self.list.ready(more)?;
-        self.waiting.ready(more)?;
-        self.stamps.ready(more)?;
-        self.room = self.room.max(more);
-        Ok(())
+        if let Form::Short(short) = &self.form {
+            if !short.is_short_with(more) {
+                self.form = Form::Long(short.to_long(more)?);
+                return Ok(());
+            }
+        }
+        match &mut self.form {
+            Form::Short(short) => short.ready(more),
+            Form::Long(long) => long.ready(more),
+        }
     }
 }
 
@@ -76,10 +78,10 @@ impl<A: Allocator> Queue<A> {
         ensures holds { self.new.holds ≡ with_hold self.old.holds hold }
         ensures room { self.old.room ≤ self.new.room + 1 }
     {
-        self.list.put(hold);
-        self.waiting.put(&hold);
-        self.stamps.put(hold.patron, hold.stamp);
-        self.room -= 1;
+        match &mut self.form {
+            Form::Short(short) => short.put(hold),
+            Form::Long(long) => long.put(hold),
+        }
     }
 
     /// Takes a patron's hold out of the queue, or answers `None` where there is none. It takes no memory.
@@ -93,23 +95,26 @@ impl<A: Allocator> Queue<A> {
         Some(hold)
     }
 
-    /// Takes a hold of the queue out of its lists.
+    /// Takes a hold of the queue out of it.
     fn remove(&mut self, hold: &Hold)
         requires { hold_of self.old.holds hold.now.patron ≡ Some hold.now }
         ensures holds { self.new.holds ≡ without self.old.holds hold.now.patron }
         ensures room { self.old.room ≤ self.new.room }
     {
-        self.list.remove(hold);
-        self.waiting.remove(hold);
-        self.stamps.remove(hold.patron);
+        match &mut self.form {
+            Form::Short(short) => short.remove(hold),
+            Form::Long(long) => long.remove(hold),
+        }
     }
 
     /// A patron's hold, or `None` where there is none.
     pub fn hold_of(&self, patron: PatronNo) -> Option<Hold>
         ensures { result ≡ hold_of self.now.holds patron }
     {
-        let stamp = self.stamps.of(patron)?;
-        self.list.at_stamp(stamp)
+        match &self.form {
+            Form::Short(short) => short.hold_of(patron),
+            Form::Long(long) => long.hold_of(patron),
+        }
     }
 
     /// The place of a patron's hold in the queue, from 1, or `None` where there is no such hold.
@@ -117,15 +122,20 @@ impl<A: Allocator> Queue<A> {
         ensures { result ≡ option_map (λ h. count_before self.now.holds h.stamp + 1)
             (hold_of self.now.holds patron) }
     {
-        let stamp = self.stamps.of(patron)?;
-        Some(self.list.count_before(stamp) as u64 + 1)
+        match &self.form {
+            Form::Short(short) => short.position(patron),
+            Form::Long(long) => long.position(patron),
+        }
     }
 
-    /// Whether a hold has this stamp. It is found by halves, without a walk.
+    /// Whether a hold has this stamp. In a long queue it is found by halves, without a walk.
     pub fn has_stamp(&self, stamp: u64) -> bool
         ensures { result ≡ has_stamp self.now.holds stamp }
     {
-        self.list.has_stamp(stamp)
+        match &self.form {
+            Form::Short(short) => short.has_stamp(stamp),
+            Form::Long(long) => long.has_stamp(stamp),
+        }
     }
 
     /// How many holds have a smaller stamp.
@@ -134,14 +144,20 @@ impl<A: Allocator> Queue<A> {
         ensures within { result ≤ length self.now.holds }
         ensures fits { result < 2 ^ 63 }
     {
-        self.list.count_before(stamp)
+        match &self.form {
+            Form::Short(short) => short.count_before(stamp),
+            Form::Long(long) => long.count_before(stamp),
+        }
     }
 
     /// How many holds there are.
     pub fn len(&self) -> usize
         ensures { result ≡ length self.now.holds }
     {
-        self.list.len()
+        match &self.form {
+            Form::Short(short) => short.len(),
+            Form::Long(long) => long.len(),
+        }
     }
 
     /// The holds, lent, with those that wait by what they wait for. The stamps rise, and no patron has two
@@ -151,11 +167,9 @@ impl<A: Allocator> Queue<A> {
         ensures ordered { IsInOrder result }
         ensures once { HasPatronsOnce result }
     {
-        QueueView::new(
-            self.list.lend(),
-            self.waiting.for_any(),
-            self.waiting.for_one(),
-            self.waiting.at_branch(),
-        )
+        match &self.form {
+            Form::Short(short) => short.view(),
+            Form::Long(long) => long.view(),
+        }
     }
 }

@@ -3,7 +3,7 @@ ghost use Rattle.std.specs.Prelude.{◌≡◌, ◌≤◌, filter, length};
 ghost use Rattle.std.specs.Iterator.{YieldsFirstRef, item_count};
 ghost use Rattle.std.specs.Option.{option_copied};
 ghost use Rattle.hd_queue.specs.Holds.{HasPatronsOnce, IsInOrder, hold_of};
-ghost use Rattle.hd_queue.specs.Waiting.{AreWaiting, waits_at, waits_for, waits_for_any};
+ghost use Rattle.hd_queue.specs.Waiting.{HaveWaiting, waits_at, waits_for, waits_for_any};
 ghost use Rattle.hd_queue.specs.Wanted.{is_picked_up_at, wants_at};
 ghost use Rattle.hd_queue.specs.declared.wanted.Wanted.{Wanted};
 
@@ -14,6 +14,9 @@ use std::alloc::{Allocator, Global};
 use std::marker::Model;
 
 /// The holds of one title, lent, in order of stamp. Its calls take no memory.
+///
+/// Of a long queue, the lists of those that wait for any copy, for one copy and for a copy of their pickup
+/// are lists of their own. Of a short one each is the list of all holds.
 #[derive(Drop)]
 pub struct QueueView<'a, A: Allocator = Global> {
     holds: HoldSlices<'a, A>,
@@ -26,14 +29,14 @@ impl<'a, A: Allocator> Model for QueueView<'a, A> {
     ghost use Rattle.std.specs.Prelude.{List};
     ghost use Rattle.hd_rules.specs.declared.holds.Hold.{Hold};
     ghost use Rattle.hd_queue.specs.Holds.{HasPatronsOnce, IsInOrder};
-    ghost use Rattle.hd_queue.specs.Waiting.{AreWaiting};
+    ghost use Rattle.hd_queue.specs.Waiting.{HaveWaiting};
 
     ghost Value = { List Hold };
 
     ghost view = { λ v. v.holds };
 
     ghost invariant = { λ v. IsInOrder v.holds × HasPatronsOnce v.holds
-        × AreWaiting v.holds v.for_any v.for_one v.at_branch };
+        × HaveWaiting v.holds v.for_any v.for_one v.at_branch };
 }
 
 impl<'a, A: Allocator> QueueView<'a, A> {
@@ -46,7 +49,7 @@ impl<'a, A: Allocator> QueueView<'a, A> {
     ) -> QueueView<'a, A>
         requires ordered { IsInOrder holds }
         requires once { HasPatronsOnce holds }
-        requires waiting { AreWaiting holds for_any for_one at_branch }
+        requires waiting { HaveWaiting holds for_any for_one at_branch }
         ensures { result ≡ holds.entry }
     {
         QueueView {
@@ -78,35 +81,35 @@ impl<'a, A: Allocator> QueueView<'a, A> {
         ensures ordered { IsInOrder self.now }
         ensures once { HasPatronsOnce self.now }
     {
-        Waiting::new(&self.for_any, Wanted::All, None)
+        Waiting::new(&self.for_any, Wanted::AnyCopy, None)
     }
 
     /// The holds that wait for any copy and whose pickup is this branch, in order of stamp.
     pub fn any_at(&self, branch: BranchNo) -> Waiting<'a, A>
         ensures { result ≡ filter (is_picked_up_at branch) (filter waits_for_any self.now) }
     {
-        Waiting::new(&self.for_any, Wanted::All, Some(branch))
+        Waiting::new(&self.for_any, Wanted::AnyCopy, Some(branch))
     }
 
     /// The holds that wait for this copy alone, in order of stamp.
     pub fn for_copy(&self, copy: CopyNo) -> Waiting<'a, A>
         ensures { result ≡ filter (waits_for copy) self.now }
     {
-        Waiting::new(&self.for_one, Wanted::Naming(copy), None)
+        Waiting::new(&self.for_one, Wanted::OneCopy(copy), None)
     }
 
     /// The holds that wait for this copy alone and whose pickup is this branch, in order of stamp.
     pub fn for_copy_at(&self, copy: CopyNo, branch: BranchNo) -> Waiting<'a, A>
         ensures { result ≡ filter (is_picked_up_at branch) (filter (waits_for copy) self.now) }
     {
-        Waiting::new(&self.for_one, Wanted::Naming(copy), Some(branch))
+        Waiting::new(&self.for_one, Wanted::OneCopy(copy), Some(branch))
     }
 
     /// The holds that wait for a copy whose home is this branch, their pickup, in order of stamp.
     pub fn at_branch(&self, branch: BranchNo) -> Waiting<'a, A>
         ensures { result ≡ filter (waits_at branch) self.now }
     {
-        Waiting::new(&self.at_branch, Wanted::All, Some(branch))
+        Waiting::new(&self.at_branch, Wanted::CopyOfBranch, Some(branch))
     }
 }
 

@@ -1,29 +1,35 @@
-//! Which holds of a list are wanted.
+//! Which holds that wait are wanted.
 ghost use Rattle.std.specs.Prelude.{◌≡◌};
 ghost use Rattle.hd_queue.specs.Wanted.{wants_at, wants_hold};
 
 use hd_rules::{BranchNo, CopyNo, Hold, HoldKind};
 
-/// Which holds of a list are wanted.
+/// Which holds that wait are wanted.
 #[derive(Clone, Copy)]
 pub(crate) enum Wanted {
-    /// All of them.
-    All,
-    /// Those of this copy alone.
-    Naming(CopyNo),
+    /// Those that wait for any copy.
+    AnyCopy,
+    /// Those that wait for this copy alone.
+    OneCopy(CopyNo),
+    /// Those that wait for a copy of their pickup.
+    CopyOfBranch,
 }
 
 impl Wanted {
-    /// Whether the hold is wanted.
+    /// Whether the hold waits, and is wanted.
     fn admits(&self, hold: &Hold) -> bool
         ensures { result ≡ wants_hold self.now hold.now }
     {
+        if hold.copy.is_some() {
+            return false;
+        }
         match *self {
-            Wanted::All => true,
-            Wanted::Naming(copy) => match hold.kind {
+            Wanted::AnyCopy => matches!(hold.kind, HoldKind::Any),
+            Wanted::OneCopy(copy) => match hold.kind {
                 HoldKind::One(named) => named == copy,
                 HoldKind::Any | HoldKind::AtBranch => false,
             },
+            Wanted::CopyOfBranch => matches!(hold.kind, HoldKind::AtBranch),
         }
     }
 

@@ -5,6 +5,7 @@ pub mod Failures
 pub mod LineFeeds
 pub mod Logins
 pub mod Places
+pub mod PlayedLines
 pub mod Reports
 pub mod Told
 pub mod Waits

@@ -9,6 +9,7 @@ mod failed;
 mod fault;
 mod gate;
 mod line_feeds;
+mod line_player;
 mod logins;
 mod options;
 mod places;
@@ -23,7 +24,8 @@ mod writing;
 
 pub use crate::fault::ServeFault;
 pub use crate::gate::{Gate, Observer};
+pub use crate::line_player::LinePlayer;
 pub use crate::options::{Beyond, Options};
 pub use crate::serving::{serve, serve_observed};
 pub use crate::standing::{AskedToEnd, Standing};
-pub use crate::terminals::{Served, serve_terminals};
+pub use crate::terminals::{Accepted, Seats, Served, serve_terminals};

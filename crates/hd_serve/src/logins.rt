@@ -104,7 +104,7 @@ fn is_terminal(catalogue: &Catalogue, name: &[u8]) -> bool
 }
 
 /// The terminal that has this name, if one has it.
-fn terminal_named(catalogue: &Catalogue, name: &[u8]) -> Option<TerminalNo>
+pub(crate) fn terminal_named(catalogue: &Catalogue, name: &[u8]) -> Option<TerminalNo>
     ensures found { IfSome result (IsNamed catalogue.now name.now) }
     ensures none { IfNone result (¬ HasTerminal catalogue.now name.now) }
 {

@@ -6,7 +6,7 @@ use crate::fault::ServeFault;
 use crate::gate::{Gate, Observer, Unobserved};
 use crate::options::Options;
 use crate::standing::Standing;
-use crate::terminals::serve_terminals;
+use crate::terminals::{Seats, Served, serve_terminals};
 use hd_hall::{CataloguedKeeper, Closed, Hall, House};
 use std::alloc::Global;
 use std::marker::Brand;
@@ -120,7 +120,11 @@ fn serve_in<
     let Ok(hall) = Hall::<H, Global, Q, K>::new(alloc, keeper, blank) else {
         return Err(ServeFault::Memory);
     };
-    let served = serve_terminals(rt, alloc, &hall, listener, &standing, options, observer)?;
+    let seats = Seats::new(alloc);
+    let accepted = serve_terminals(
+        rt, alloc, &hall, &seats, listener, &standing, options, observer,
+    )?;
+    let served = Served::of(rt, accepted, &standing, seats);
     let Closed {
         keeper,
         ledger: _ledger,

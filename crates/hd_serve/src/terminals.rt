@@ -24,6 +24,27 @@ use std::thread;
 use std::thread::Threads;
 use std::time::Clock;
 
+/// The seats of a hall while it is served. Each seat that is opened is kept here when its session has ended.
+#[derive(Drop)]
+pub struct Seats<H: House> {
+    pub(crate) places: Mutex<Places<H>>,
+}
+
+impl<H: House> Seats<H> {
+    /// Those of a hall that has opened none.
+    pub fn new(alloc: Global) -> Seats<H> {
+        Seats {
+            places: Mutex::new(Places::new(alloc)),
+        }
+    }
+}
+
+/// How accepting ended.
+#[derive(Drop)]
+pub struct Accepted {
+    end: Result<(), ServeFault>,
+}
+
 /// The outcome when no more terminals are served: how accepting ended, and the seats of all connections.
 #[derive(Drop)]
 pub struct Served<H: House> {
@@ -34,6 +55,22 @@ pub struct Served<H: House> {
 }
 
 impl<H: House> Served<H> {
+    /// The outcome where accepting has ended so, and all sessions have ended whose seats are kept.
+    pub fn of<R: Wait>(
+        rt: &R,
+        accepted: Accepted,
+        standing: &Standing,
+        seats: Seats<H>,
+    ) -> Served<H>
+        ensures { result.accepted ≡ accepted.end }
+    {
+        Served {
+            accepted: accepted.end,
+            unwritten: standing.course(rt).unwritten,
+            seats: seats.places.into_inner().into_seats(),
+        }
+    }
+
     /// Closes the hall in which they were served, and returns its keeper. The turns of its journal since it was
     /// opened are legal, and they are just those that the connections were answered, each once. All parts of
     /// the hall's ledger come back, with as many turns counted: so no connection is left out.
@@ -86,7 +123,8 @@ fn answer<T: Drop>(
 }
 
 /// Serves terminals over TCP in a hall, each connection as a session at a seat of its own, until as many
-/// connections have been served as the options say, or the server is asked to end (`Standing`).
+/// connections have been served as the options say, or the server is asked to end (`Standing`). The seats are kept
+/// for the closing.
 ///
 /// All is as at `serve`, which closes the hall too. Events are reported to the observer, up to its level.
 ///
@@ -102,32 +140,26 @@ pub fn serve_terminals<
     rt: &R,
     alloc: Global,
     hall: &Hall<H, Global, Q, K>,
+    seats: &Seats<H>,
     listener: &TcpListener,
     standing: &Standing,
     options: &Options<'_>,
     observer: &O,
-) -> Result<Served<H>, ServeFault>
+) -> Result<Accepted, ServeFault>
     requires workers { (1 ≤ options.now.workers) × (options.now.workers ≤ 9999) }
     ensures why { IfErr result (λ fault. fault ≡ Memory) }
 {
-    let places = Mutex::new(Places::new(alloc));
     let (to, from) = bounded(alloc, options.workers as usize)?;
     let service = Service {
         alloc,
         hall,
-        places: &places,
+        places: &seats.places,
         from: &from,
         standing,
         options: *options,
     };
-    let accepted = serve_by(rt, &service, listener, to, observer);
-    let seats = places.into_inner().into_seats();
-    let unwritten = standing.course(rt).unwritten;
-    Ok(Served {
-        accepted,
-        unwritten,
-        seats,
-    })
+    let end = serve_by(rt, &service, listener, to, observer);
+    Ok(Accepted { end })
 }
 
 /// Starts the workers, passes the connections to them, and returns when all are served. Where the system

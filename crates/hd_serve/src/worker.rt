@@ -247,7 +247,7 @@ fn are_few(last: u64, most: u64) -> bool
 }
 
 /// Why no more connections are to be served, by the end of one's session: a turn of it couldn't be written.
-fn stop_of(end: Option<Ended>) -> Option<UnwrittenTurn>
+pub(crate) fn stop_of(end: Option<Ended>) -> Option<UnwrittenTurn>
     ensures { option_map (λ unwritten. unwritten.why) result ≡ stop_of end }
 {
     match end {

@@ -1,4 +1,5 @@
 pub mod Ends
 pub mod Files
+pub mod Lines
 pub mod Seen
 pub mod Summaries

@@ -1,6 +1,7 @@
 //! The service of holddesk: terminals served over TCP, and messages answered from a file.
 #![tactic(auto)]
 
+mod door_lines;
 mod ending;
 mod fault;
 mod file_identity;

@@ -3,6 +3,7 @@ ghost use Rattle.std.specs.Prelude.{◌≡◌, ◌≤◌, ◌++◌, [], IfErr, I
 ghost use Rattle.hd_journal.specs.Openings.{IsLegalSince};
 ghost use Rattle.hd_server.specs.Ends.{IsOfServe};
 
+use crate::door_lines::DoorLines;
 use crate::ending::AskToEnd;
 use crate::fault::ServerFault;
 use crate::file_identity::{FileIdentity, first_identity};
@@ -10,10 +11,13 @@ use crate::server_view::ServerView;
 use hd_door::{Door, OnStop, Service};
 use hd_durable::LastCommit;
 use hd_hall::{CataloguedKeeper, Closed, Hall, House, Keeper};
-use hd_http::{Page, View};
+use hd_http::{Page, Player, View};
 use hd_journal::{Journal, Look};
 use hd_list_pages::HallView;
-use hd_serve::{Gate, Observer, Options, ServeFault, Served, Standing, serve_terminals};
+use hd_serve::{
+    Accepted, Gate, LinePlayer, Observer, Options, Seats, ServeFault, Served, Standing,
+    serve_terminals,
+};
 use std::alloc::{Allocator, Global};
 use std::marker::Brand;
 use std::net::TcpListener;
@@ -31,6 +35,8 @@ pub struct Sight<'a, O: Observer> {
     pub door: &'a Door,
     /// What is shown at its front.
     pub page: Page<'a>,
+    /// Whether the lines that are posted there are played.
+    pub has_lines: bool,
     /// The paths of the files in which the journal is kept, if it is.
     pub files: &'a [&'a str],
     /// How long the last commit to them took, as far as that is noted.
@@ -39,7 +45,8 @@ pub struct Sight<'a, O: Observer> {
 
 /// Serves terminals over TCP, as `hd_serve::serve` does, and beside them a door: each answer there is of one
 /// look at the hall, and `POST /stop` has the server end as where the last of its connections has been
-/// served. The door is closed at the end, and stays at its path.
+/// served. Lines that are posted there are played in the hall, where that is on, each time by a session at a seat
+/// of its own. The door is closed at the end, and stays at its path.
 ///
 /// # Errors
 /// `Serve`, with each of the faults of `hd_serve::serve`; also `NoThread` where no thread can be had for the
@@ -113,15 +120,34 @@ fn serve_in<
     };
     let view = HallView::new(rt, host, &hall, begun)?;
     let observer = sight.observer;
-    let served = beside_door(
+    let seats = Seats::new(alloc);
+    let player = DoorLines {
+        is_on: sight.has_lines,
+        player: LinePlayer {
+            rt,
+            alloc,
+            hall: &hall,
+            seats: &seats,
+            standing: &standing,
+            options: *options,
+            observer,
+        },
+    };
+    let accepted = beside_door(
         rt,
         host,
         &seen,
         view,
-        || -> Result<Served<H>, ServeFault>
+        player,
+        || -> Result<Accepted, ServeFault>
             requires workers { (1 ≤ options.now.workers) × (options.now.workers ≤ 9999) }
-        { serve_terminals(rt, alloc, &hall, listener, &standing, options, observer) },
+        {
+            serve_terminals(
+                rt, alloc, &hall, &seats, listener, &standing, options, observer,
+            )
+        },
     )??;
+    let served = Served::of(rt, accepted, &standing, seats);
     let Closed {
         keeper,
         ledger: _ledger,
@@ -173,7 +199,7 @@ struct Seen<'a> {
 }
 
 /// Does something, and meanwhile answers at a door, in a thread of its own, of a view of the journal and of
-/// the connections. The door is closed then.
+/// the connections, and has lines played there. The door is closed then.
 ///
 /// # Errors
 /// `NoThread` where there is no thread for the door. Nothing is done then.
@@ -181,6 +207,7 @@ fn beside_door<
     'x,
     R: Threads + Wait + Clock + Sync,
     V: View + Sync + Drop,
+    P: Player + Sync + Drop,
     T,
     F: FnOnce() -> T + Drop,
 >(
@@ -188,6 +215,7 @@ fn beside_door<
     host: &'x HostRuntime,
     seen: &'x Seen<'x>,
     journal: V,
+    player: P,
     work: F,
 ) -> Result<T, ServeFault>
     requires { F.pre work }
@@ -206,6 +234,7 @@ fn beside_door<
         alloc: host.alloc(),
         page: seen.page,
         view: &view,
+        player: &player,
         on_stop: AskToEnd {
             rt,
             standing: seen.standing,
@@ -219,10 +248,11 @@ fn beside_door<
 fn beside<
     R: Threads + Wait + Clock + Sync,
     V: View + Sync,
+    P: Player + Sync,
     S: OnStop + Copy + Sync,
     T,
     F: FnOnce() -> T + Drop,
->(rt: &R, door: &Door, service: &Service<'_, V, S>, work: F) -> Result<T, ServeFault>
+>(rt: &R, door: &Door, service: &Service<'_, V, P, S>, work: F) -> Result<T, ServeFault>
     requires { F.pre work }
 {
     thread::scope(thread::scope_env(), rt, |scope| {

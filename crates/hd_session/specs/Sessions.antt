@@ -8,11 +8,12 @@ use Rattle.hd_journal.specs.declared.fault.TurnFault.{TurnFault}
 use Rattle.hd_journal.specs.declared.fault.TurnFault.TheVariants.{Memory}
 use Rattle.hd_journal.specs.declared.office.Office.{Ghosts}
 use Rattle.hd_exchange.specs.Deeds.{Deed}
+use Rattle.hd_exchange.specs.declared.login.Login.{Login}
 use Rattle.hd_exchange.specs.Extensions.{Extensions}
 use Rattle.hd_exchange.specs.Works.{Extends, Works}
 use Rattle.hd_session.specs.declared.ended.Ended.{Ended}
 use Rattle.hd_session.specs.declared.ended.Ended.TheVariants as end
-use Rattle.hd_session.specs.States.{State, IsHeard, IsKnownTo, LineAsks, new_state}
+use Rattle.hd_session.specs.States.{State, IsHeard, IsKnownTo, LineAsks, new_state, state_standing_as}
 
 -- A session, as contracts see it: what has come of its line, where it stands, and whether it has ended and
 -- why.
@@ -24,6 +25,11 @@ pub record Hearing : Type 0 where
 -- a new session, with some extensions
 abbrev pub new_session : Extensions → Hearing
 new_session e = record { begun = stream_start; state = new_state e; ended = None }
+
+-- a session that stands as a terminal from its start, and is new in all else
+abbrev pub session_standing_as : Extensions → Login → Hearing
+session_standing_as e login =
+    record { begun = stream_start; state = state_standing_as e (Some login); ended = None }
 
 -- A piece of a stream, and the present at which it comes.
 pub record Piece : Type 0 where

@@ -28,6 +28,10 @@ pub record State : Type 0 where
 abbrev pub new_state : Extensions → State
 new_state e = record { extensions = e; login = None; last = []; digit = None; gaps = 0 }
 
+-- that of a session that is logged in so from its start, by no message
+abbrev pub state_standing_as : Extensions → Option Login → State
+state_standing_as e login = record { extensions = e; login = login; last = []; digit = None; gaps = 0 }
+
 -- a session stands as a terminal of the catalogue, or as none
 abbrev pub IsKnownTo : Contents → State → Type 0
 IsKnownTo k s = ForSome s.login (IsKnownLogin (facts_of k))

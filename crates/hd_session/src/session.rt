@@ -4,13 +4,14 @@ ghost use Rattle.std.specs.Prelude.{length};
 ghost use Rattle.hd_exchange.specs.Extensions.{extensions_lent, no_extensions};
 ghost use Rattle.hd_session.specs.Logs.{Heard, Logs, LogsLine, LogsPiece};
 ghost use Rattle.hd_session.specs.Sessions.{Answers, Feeds, IsCause, new_session, room_of};
+ghost use Rattle.hd_session.specs.Sessions.{session_standing_as};
 ghost use Rattle.hd_session.specs.States.{IsKnownTo};
 
 use crate::ended::Ended;
 use crate::session_log::{Answered, NoLog, SessionLog};
 use crate::state::{LONGEST_REPLY, SessionState};
 use hd_date::Stamp18;
-use hd_exchange::{Extensions, Office, TurnFault};
+use hd_exchange::{Extensions, Login, Office, TurnFault};
 use hd_field::Stream;
 use std::alloc::{AllocError, Allocator, Global};
 use std::marker::Model;
@@ -81,6 +82,29 @@ impl<'e, A: Allocator + Copy> Session<'e, A> {
             stream,
             state,
             ended: None,
+        })
+    }
+
+    /// The same, logged in from its start: it stands as this terminal, without a 93. All else is as of a session
+    /// before its first byte.
+    ///
+    /// # Errors
+    /// Where it is out of memory.
+    pub fn standing_as(
+        alloc: A,
+        extensions: Option<&'e Extensions<A>>,
+        login: Login,
+    ) -> Result<Session<'e, A>, AllocError>
+        ensures { IfOk result (λ session. session
+            ≡ session_standing_as (extensions_lent extensions.entry) login) }
+    {
+        let stream = Stream::new(alloc)?;
+        let state = SessionState::standing_as(alloc, extensions, Some(login))?;
+        let ended = None;
+        Ok(Session {
+            stream,
+            state,
+            ended,
         })
     }
 

@@ -10,7 +10,7 @@ ghost use Rattle.hd_guard.specs.Reading.{read_line};
 ghost use Rattle.hd_session.specs.Logs.{body_of};
 ghost use Rattle.hd_session.specs.Sessions.{Answers, IsSomeLine, IsTurnRefused};
 ghost use Rattle.hd_session.specs.States.{IsAnswered, IsKnownTo};
-ghost use Rattle.hd_session.specs.States.{digit_after, gaps_after, line_with, new_state};
+ghost use Rattle.hd_session.specs.States.{digit_after, gaps_after, line_with, new_state, state_standing_as};
 ghost use Rattle.hd_session.specs.Trailers.{last_after, text_said};
 
 use crate::closing::{close, put_send_again};
@@ -72,10 +72,22 @@ impl<'e, A: Allocator + Copy> SessionState<'e, A> {
     ) -> Result<SessionState<'e, A>, AllocError>
         ensures { IfOk result (λ state. state ≡ new_state (extensions_lent extensions.entry)) }
     {
+        SessionState::standing_as(alloc, extensions, None)
+    }
+
+    /// The same of a session that is logged in so from its start.
+    pub(crate) fn standing_as(
+        alloc: A,
+        extensions: Option<&'e Extensions<A>>,
+        login: Option<Login>,
+    ) -> Result<SessionState<'e, A>, AllocError>
+        ensures { IfOk result (λ state. state
+            ≡ state_standing_as (extensions_lent extensions.entry) login) }
+    {
         let last = Vec::with_capacity(alloc, LONGEST_REPLY)?;
         Ok(SessionState {
             extensions,
-            login: None,
+            login,
             last,
             digit: None,
             gaps: 0,

@@ -18,7 +18,7 @@ pub enum ListFault {
         name: String,
     },
     /// This is no day of the form 2026-03-01.
-    #[error("{0} is no day")]
+    #[error("{0} is no day, as 2026-03-01")]
     NoDay(String),
     /// The list can't be written.
     #[error("cannot write")]

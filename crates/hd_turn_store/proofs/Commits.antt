@@ -1,18 +1,26 @@
 -- What a statement that changes a journal commits.
 use Rattle.std.proofs.Common.{◌≡◌, inl, inr, ℕ, List, [], ◌∷◌, append-nil, None, Ok, Err, Result, IsOk}
+use Rattle.std.proofs.Common.{OnOk, true, false, add-one, append_assoc, get_or, take, drop, suc, ◌+◌, ◌<◌}
+use Rattle.std.proofs.Common.{Bool, IfErr}
+use Rattle.std.specs.Result.{IsErrAnd}
+use Rattle.std.proofs.Math.Seq.{drop-cons, take-suc}
 use Rattle.std.proofs.Common.{IsTrue, ap, refl, subst, sym, ◌∙◌, ◌++◌, codes, length, map, arith, pos}
-use Rattle.std.proofs.lemmas.List.{map-append}
+use Rattle.std.proofs.lemmas.List.{map-append, take-append-drop}
 use Rattle.std.specs.List.Sorted.{IsPermutation}
-use Rattle.sqlite.specs.State.{CommitsBy}
-use Rattle.sqlite.proofs.Callers.{IsPlain, command_of, one_step, one_permutation}
+use Rattle.sqlite.specs.Held.{Held, state}
+use Rattle.sqlite.specs.State.{CommitsBy, KeepsCounts, Shows as Shown}
+use Rattle.sqlite_trees.specs.declared.store.Store.{Ghosts as StoreGhosts}
+use Rattle.sqlite.proofs.Callers.{IsPlain, command_of, one_step, one_permutation, statement_of}
 use Rattle.sqlite.specs.Rowids.TheVariants.{Given}
 use Rattle.sqlite_rules.specs.Calls.{ids_of}
 use Rattle.sqlite_value.proofs.OrderLemmas.{value_cmp-Int}
-use Rattle.hd_turn_store.specs.Words.{Blob, Command, Commit, Database, Does, Error, Executes, HasCleanDisk}
+use Rattle.hd_turn_store.specs.Words.{Blob, Command, Commit, Database, Does, Error, Executes, ExecutesInside}
+use Rattle.hd_turn_store.specs.Words.{HasCleanDisk}
 use Rattle.hd_turn_store.specs.Words.{Index, Int, IsAnswer, MayCommit, Null, Output, Release, Row, Runs}
 use Rattle.hd_turn_store.specs.Words.{State, Survives, Tally, Trees, Writes, Written, edit_of, edited}
-use Rattle.hd_turn_store.specs.Words.{eval_all, mode_of, output, overlay, page, text_of}
-use Rattle.hd_turn_store.specs.Holds.{Commits, Holds}
+use Rattle.hd_turn_store.specs.Words.{eval_all, mode_of, output, overlay, page, text_of, understood}
+use Rattle.hd_turn_store.specs.Faults.{HasPut, RefusesOneOf}
+use Rattle.hd_turn_store.specs.Holds.{Commits, Holds, ShowsTurns}
 use Rattle.hd_turn_store.specs.Kept.{Head, KeptTurn, cells, head_cells}
 use Rattle.hd_turn_store.specs.Tables.{Stores, journal_table, number_index, numbered_from}
 use Rattle.hd_turn_store.specs.Tables.{schema_with, turn_columns}
@@ -128,6 +136,122 @@ adds k h ks = record {
         },
       );
 }
+
+-- ---- what the insertion of a turn does inside a transaction, and what the transaction commits
+
+-- what is put is one more of the list
+pub one_more : {A : Type 0} (f : A → KeptTurn) (ks : List KeptTurn) (xs : List A) (i : ℕ) (d : A)
+    → i < length xs → (ks ++ map f (take i xs)) ++ f (get_or xs i d) ∷ [] ≡ ks ++ map f (take (i + 1) xs)
+one_more f ks xs i d within =
+    append_assoc ks (map f (take i xs)) (f (get_or xs i d) ∷ [])
+    ∙ ap (λ (more : List KeptTurn). ks ++ more)
+    (sym (map-append f (take i xs) (get_or xs i d ∷ []))
+    ∙ ap (λ (more : _). map f more) (rw add-one (sym (take-suc xs i d within))))
+
+-- one of them, and those before and behind it
+split_at : {A : Type 0} (f : A → KeptTurn) (xs : List A) (i : ℕ) (d : A) → i < length xs
+    → map f xs ≡ map f (take i xs) ++ f (get_or xs i d) ∷ map f (drop (suc i) xs)
+split_at f xs i d within =
+    ap (λ (all : _). map f all)
+    (sym (take-append-drop i xs) ∙ ap (λ (rest : _). take i xs ++ rest) (drop-cons xs i d within))
+    ∙ map-append f (take i xs) (get_or xs i d ∷ drop (suc i) xs)
+
+-- the one that is refused
+pub refuses_one : {S : Type 0} (g : StoreGhosts S) (begun before after : Held S) {A : Type 0}
+    (f : A → KeptTurn) (xs : List A) (i : ℕ) (d : A) (error : Error) → i < length xs
+    → HasPut g begun (map f (take i xs)) before
+    → ExecutesInside 0 insert_turn_text (cells (f (get_or xs i d))) (state g before) (state g after)
+    (Err error)
+    → RefusesOneOf g begun (map f xs) error
+refuses_one g begun before after f xs i d error within had refuses = record {
+  put = map f (take i xs);
+  refused = f (get_or xs i d);
+  rest = map f (drop (suc i) xs);
+  are = split_at f xs i d within;
+  before = before;
+  had = had;
+  after = after;
+  refuses = refuses;
+}
+
+-- a statement that is done inside a transaction leaves it open
+pub inside_after : (was is : Bool) → (was ≡ false → ⊥) → (IsTrue was → is ≡ true) → IsTrue is
+inside_after true is not stays = stays refl
+inside_after false is not stays = absurd (not refl)
+
+-- what a `?` passes on, and what follows from the reason of an error
+pub passes : {A E : Type 0} (r : Result A E) (why : E) (P : E → Type 0) → IsErrAnd r (λ e. e ≡ why) → P why
+    → IfErr r P
+passes (Ok x) why P is holds = absurd is
+passes (Err e) why P is holds = subst P (sym is) holds
+
+pub for_error : {A E : Type 0} (r : Result A E) {P Q : E → Type 0} → IfErr r P
+    → ((e : E) → P e → Q e) → IfErr r Q
+for_error (Ok x) holds then = tt
+for_error (Err e) holds then = then e holds
+
+pub puts_turn : (old new : State) (k : KeptTurn) (h : Head) (ks : List KeptTurn) (count : ℕ)
+    → ShowsTurns old h ks → Executes insert_turn_text (cells k) old new (Ok count)
+    → ShowsTurns new h (ks ++ k ∷ [])
+puts_turn old new k h ks count shows ran =
+    let it = adds k h ks in
+    let did = does_as (it.means old.now.schema shows.schema) old new (cells k) count refl
+    (λ part. it.writes old new part count) ran in
+    let tally : Tally = did.0.tally in
+    let part = statement_of insert_turn_text (understood old.now.schema insert_turn_text) in
+    let by = λ (indexes : List Index). it.does indexes old part tally new.now shows.rows in
+    let done = in_each (λ schema. Does old.step_limit (mode_of old) (cells k)
+    (record old.now { schema = schema }) part None it.command (Ok (tally, new.now))
+    → (new.now.schema ≡ schema) × Stores h (ks ++ k ∷ []) new.now.trees)
+    (by (number_index ∷ [])) (by []) old.now.schema shows.schema did.1 in
+    record {
+      schema = rw done.0 shows.schema;
+      rows = done.1;
+      inside = did.0.shown.mode ∙ shows.inside;
+      is_open = did.0.shown.is_open;
+    }
+
+on_ok : {A E : Type 0} (r : Result A E) {P : Type 0} → IsOk r → OnOk r P → P
+on_ok (Ok x) done is = is
+on_ok (Err x) done is = absurd (cc)
+
+-- a transaction sees what was committed
+pub begun : {S : Type 0} (g : StoreGhosts S) (old : Held S) {h : Head} {ks : List KeptTurn}
+    → Holds (state g old) h ks → ShowsTurns (state g (record old { in_transaction = true })) h ks
+begun g old holds = record {
+  schema = holds.schema;
+  rows = holds.rows;
+  inside = refl;
+  is_open = holds.is_open;
+}
+
+-- A transaction that put some turns, and was committed or not.
+pub commits_all : (old put new : State) (r : Result Unit Error) (h : Head) (ks : List KeptTurn)
+    → ShowsTurns put h ks
+    → (HasCleanDisk put → (db : Trees) → put.may_leave db → old.may_leave db)
+    → Survives put new (λ db. db ≡ put.now.trees)
+    → OnOk r (IsTrue put.in_transaction × Shown put new put.now put.now false × KeepsCounts put new
+    × (new.marks ≡ []))
+    → Settles new → HasCleanDisk new → Commits (IsOk r) h ks old new
+commits_all old put new r h ks shows early survives ok settles clean =
+    let clean_put : HasCleanDisk put = omega (arith, survives.clean) in
+    let now : IsOk r → Holds new h ks = λ done.
+    let shown = (on_ok r done ok).1 in
+    record {
+      schema = rw shown.now_is shows.schema;
+      rows = rw shown.now_is shows.rows;
+      settled = shown.committed_is ∙ sym shown.now_is;
+      outside = shown.mode;
+      is_open = shown.is_open;
+    } in
+    record {
+      done = now;
+      durable = λ done db may. lasting db (now done) (settles db (now done).is_open may);
+      crash = λ db may. elim (survives.crash clean db may) [
+        | inl was ↦ inl (early clean_put db was)
+        | inr is ↦ inr (rw is shows.rows)
+      ];
+    }
 
 -- ---- what another digest does to the head, and what it commits
 

@@ -1,16 +1,16 @@
 -- Which fault an error of the database is told as.
-use Rattle.std.specs.Prelude.{◌≡◌, ◌≢◌, ◌⊎◌, ◌^◌, ◌≤◌, ℕ, pos, List, [], ◌∷◌, ⊤, Err}
+use Rattle.std.specs.Prelude.{◌≡◌, ◌≢◌, ◌⊎◌, ◌^◌, ◌≤◌, ◌++◌, ℕ, pos, true, List, [], ◌∷◌, ⊤, Err, IsTrue}
 use Rattle.sqlite.specs.declared.error.Error.TheVariants.{SqliteFailure, SqlInputError, InvalidColumnType}
 use Rattle.sqlite.specs.declared.error.Error.TheVariants.{IntegralValueOutOfRange, Utf8Error}
 use Rattle.sqlite_trees.specs.declared.store.Store.{Ghosts as StoreGhosts}
-use Rattle.hd_turn_store.specs.Words.{Blob, Error, Executes, FailsToQuery, HasCleanDisk, Held, Int, State}
-use Rattle.hd_turn_store.specs.Words.{state}
+use Rattle.hd_turn_store.specs.Words.{Blob, Error, Executes, ExecutesInside, FailsToCommit, FailsToQuery}
+use Rattle.hd_turn_store.specs.Words.{HasCleanDisk, Held, Int, State, state}
 use Rattle.hd_turn_store.specs.declared.fault.Fault.{Fault}
 use Rattle.hd_turn_store.specs.declared.fault.Fault.TheVariants.{Busy, CannotOpen, Damaged, NotAJournal}
 use Rattle.hd_turn_store.specs.declared.fault.Fault.TheVariants.{DiskFull, CannotWrite, CannotRead, Memory}
 use Rattle.hd_turn_store.specs.declared.fault.Fault.TheVariants.{UnknownFormat}
 use Rattle.hd_turn_store.specs.Kept.{Head, KeptTurn, cells, IsKnownFormat}
-use Rattle.hd_turn_store.specs.Holds.{Holds, IsBlank}
+use Rattle.hd_turn_store.specs.Holds.{Holds, IsBlank, ShowsTurns}
 use Rattle.hd_turn_store.specs.Tables.{IsJournal, no_schema}
 use Rattle.hd_turn_store.specs.Texts.{insert_turn_text, select_head_text, update_head_text}
 use Rattle.sqlite.specs.declared.error.ErrorCode.TheVariants as code
@@ -70,9 +70,37 @@ IsReadingFault CannotRead = ⊤
 IsReadingFault Memory = ⊤
 IsReadingFault _ = ⊥
 
--- SQLite refused to put this turn by this error.
-abbrev pub RefusesTurn : State → State → KeptTurn → Error → Type 0
-RefusesTurn old new kept error = Executes insert_turn_text (cells kept) old new (Err error)
+module _ {S : Type 0} (g : StoreGhosts S) where
+  -- a transaction that had a journal has these turns more
+  abbrev pub HasPut : Held S → List KeptTurn → Held S → Type 0
+  HasPut begun ks c = (head : Head) (held : List KeptTurn) → ShowsTurns (state g begun) head held
+      → ShowsTurns (state g c) head (held ++ ks)
+
+  -- SQLite refused one of these turns by this error, in a transaction that had put those before it.
+  pub record RefusesOneOf (begun : Held S) (ks : List KeptTurn) (error : Error) : Type 0 where
+    pub put : List KeptTurn
+    pub refused : KeptTurn
+    pub rest : List KeptTurn
+    pub are : ks ≡ put ++ refused ∷ rest
+    pub before : Held S
+    pub had : HasPut begun put before
+    pub after : Held S
+    pub refuses : ExecutesInside 0 insert_turn_text (cells refused) (state g before) (state g after)
+        (Err error)
+
+  -- SQLite refused by this error to commit a transaction that had put all these turns.
+  pub record RefusesEnd (begun : Held S) (ks : List KeptTurn) (new : Held S) (error : Error) : Type 0 where
+    pub put : Held S
+    pub had : HasPut begun ks put
+    pub refuses : FailsToCommit (state g put) (state g new) error
+
+  -- Why turns aren't committed: another transaction is open, which is misuse; or SQLite refused one of them, or
+  -- the end of the transaction.
+  abbrev pub RefusesCommit : Held S → Held S → List KeptTurn → Error → Type 0
+  RefusesCommit old new ks error =
+      let begun = record old { in_transaction = true } in
+      (IsTrue old.in_transaction × (error ≡ SqliteFailure code.TransactionState))
+      ⊎ (RefusesOneOf begun ks error ⊎ RefusesEnd begun ks new error)
 
 -- SQLite refused to put another digest into the head, which this fault tells.
 abbrev pub RefusesDigest : State → State → List ℕ → Fault → Type 0

@@ -34,6 +34,13 @@ pub record SeesTurns (s : State) (h : Head) (ks : List KeptTurn) : Type 0 where
   pub rows : Stores h ks s.now.trees
   pub inside : s.in_transaction ≡ true
 
+-- an open transaction sees this head and just these turns, with the index or without it
+pub record ShowsTurns (s : State) (h : Head) (ks : List KeptTurn) : Type 0 where
+  pub schema : IsJournal s.now.schema
+  pub rows : Stores h ks s.now.trees
+  pub inside : s.in_transaction ≡ true
+  pub is_open : IsTrue s.is_open
+
 -- A call only reads: where it is done the journal is as it was, and a crash leaves no more than before.
 pub record OnlyReads (is_done : Type 0) (old new : State) : Type 0 where
   pub clean : HasCleanDisk new → HasCleanDisk old

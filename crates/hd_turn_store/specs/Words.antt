@@ -19,10 +19,10 @@ pub use Rattle.sqlite.specs.Rows.{Written}
 pub use Rattle.sqlite.specs.Schema.{Schema}
 pub use Rattle.sqlite.specs.Source.TheVariants.{Values}
 pub use Rattle.sqlite.specs.State.{Relays}
-pub use Rattle.sqlite.specs.State.{CommitsShowing, Executes, FailsToQuery, HasCleanDisk, IsLive, IsUnchanged}
-pub use Rattle.sqlite.specs.State.{MayCommit}
+pub use Rattle.sqlite.specs.State.{CommitsShowing, Executes, ExecutesInside, FailsToQuery, HasCleanDisk}
+pub use Rattle.sqlite.specs.State.{IsLive, IsUnchanged, MayCommit}
 pub use Rattle.sqlite.specs.State.{Opens, Runs, ShowsRows, State, Survives, Writes, mode_of, text_of}
-pub use Rattle.sqlite.specs.Steps.{FailsToOpen, IsFresh}
+pub use Rattle.sqlite.specs.Steps.{FailsToCommit, FailsToOpen, IsFresh}
 pub use Rattle.sqlite.specs.Table.{Table}
 pub use Rattle.sqlite.specs.Term.{Env, Term, col, eval_all, lit, op2}
 pub use Rattle.sqlite.specs.Tree.{IsAscending, Trees, put_row, rowid}

@@ -1,13 +1,16 @@
-//! A journal's turns: beginning it, a commit a turn, and reading them back.
+//! A journal's turns: beginning it, committing some together, and reading them back.
 
-ghost use Rattle.std.specs.Prelude.{◌≡◌, ◌⊎◌, ◌∷◌, ◌++◌, ◌+◌, [], List, IfOk, IfErr, IsOk, OnOk, map};
-ghost use Rattle.std.specs.Prelude.{take, drop};
-ghost use Rattle.hd_turn_store.specs.Words.{HasCleanDisk, Survives, bound_value, owned, state};
+ghost use Rattle.std.specs.Prelude.{◌≡◌, ◌⊎◌, ◌∷◌, ◌++◌, ◌+◌, [], List, IfOk, IfErr, IsOk, IsTrue, OnOk};
+ghost use Rattle.std.specs.Prelude.{take, drop, map};
+ghost use Rattle.hd_turn_store.specs.Words.{ExecutesInside, HasCleanDisk, Survives, bound_value, owned};
+ghost use Rattle.hd_turn_store.specs.Words.{state};
 ghost use Rattle.hd_turn_store.specs.Kept.{KeptTurn, Head, cells, new_head, number_cell, piece};
 ghost use Rattle.hd_turn_store.specs.Tables.{journal_schema, no_schema};
 ghost use Rattle.hd_turn_store.specs.Holds.{Commits, HasEmpty, Holds, IsBlank, OnlyReads, SeesTurns};
+ghost use Rattle.hd_turn_store.specs.Holds.{ShowsTurns};
 ghost use Rattle.hd_turn_store.specs.Rows.{kept, read_cells};
-ghost use Rattle.hd_turn_store.specs.Faults.{IsWritingFault, IsReadingFault, RefusesTurn};
+ghost use Rattle.hd_turn_store.specs.Faults.{IsWritingFault, IsReadingFault, RefusesCommit, RefusesOneOf};
+ghost use Rattle.hd_turn_store.specs.Texts.{insert_turn_text};
 
 use crate::columns::{
     CREATE_INDEX, CREATE_JOURNAL, CREATE_TURN, INSERT_JOURNAL, INSERT_TURN, SELECT_TURNS,
@@ -17,7 +20,7 @@ use crate::heading::FORMAT;
 use crate::row::TurnRow;
 use crate::table::is_blank;
 use sqlite::types::{ToSql, ValueRef};
-use sqlite::{Alter, Connection, Error, Row, Transaction};
+use sqlite::{Alter, Connection, Error, ErrorCode, Row, Transaction};
 
 /// How many turns are read at a time.
 const PIECE: u32 = 1024;
@@ -57,23 +60,62 @@ fn fill<S: Alter>(tx: &mut Transaction<'_, S>, digest: &[u8; 32]) -> Result<(), 
     Ok(())
 }
 
-/// Commits one turn more. Where it fails, the file holds the turns before or these and the new one.
+/// Commits these turns, behind all others, in one transaction with one sync. Where it fails, the file holds
+/// the turns before, or these and all the new ones.
 ///
 /// # Errors
-/// SQLite's own, of which the caller tells out of memory, a full disk, or neither.
-pub fn append<S: Alter>(conn: &mut Connection<S>, row: &TurnRow<'_>) -> Result<(), Error>
+/// SQLite's own, of which the caller tells out of memory, a full disk, or neither. If another transaction is
+/// open it is misuse, and nothing is written.
+pub fn append_all<S: Alter>(conn: &mut Connection<S>, rows: &[TurnRow<'_>]) -> Result<(), Error>
     ensures clean { HasCleanDisk (state S.Store conn.new) → HasCleanDisk (state S.Store conn.old) }
     ensures adds { HasCleanDisk (state S.Store conn.new) → (head : Head) (ks : List KeptTurn)
-        → Holds (state S.Store conn.old) head ks → Commits (IsOk result) head (ks ++ kept row.now ∷ [])
+        → Holds (state S.Store conn.old) head ks → Commits (IsOk result) head (ks ++ map kept rows.now)
         (state S.Store conn.old) (state S.Store conn.new) }
-    ensures err { HasCleanDisk (state S.Store conn.new) → IfErr result (RefusesTurn (state S.Store conn.old)
-        (state S.Store conn.new) (kept row.now)) }
+    ensures err { HasCleanDisk (state S.Store conn.new)
+        → IfErr result (RefusesCommit S.Store conn.old conn.new (map kept rows.now)) }
+{
+    if !conn.is_autocommit() {
+        return Err(Error::SqliteFailure(ErrorCode::TransactionState));
+    }
+    let mut tx = conn.transaction();
+    put_all(&mut tx, rows)?;
+    tx.commit()
+}
+
+/// Puts these turns behind all others, inside a transaction.
+fn put_all<S: Alter>(tx: &mut Transaction<'_, S>, rows: &[TurnRow<'_>]) -> Result<(), Error>
+    ensures same_reference { tx.new.conn.ghost_name ≡ tx.old.conn.ghost_name }
+    ensures ok { HasCleanDisk (state S.Store tx.new.conn.now) → OnOk result ((head : Head)
+        (ks : List KeptTurn) → ShowsTurns (state S.Store tx.old.conn.now) head ks
+        → ShowsTurns (state S.Store tx.new.conn.now) head (ks ++ map kept rows.now)) }
+    ensures err { HasCleanDisk (state S.Store tx.new.conn.now)
+        → IsTrue (state S.Store tx.old.conn.now).in_transaction
+        → IfErr result (RefusesOneOf S.Store tx.old.conn.now (map kept rows.now)) }
+    ensures survives { Survives (state S.Store tx.old.conn.now) (state S.Store tx.new.conn.now) (λ _. ⊥) }
+{
+    for row in rows {
+        put(tx, row)?;
+    }
+    Ok(())
+}
+
+/// Puts one turn behind all others, inside a transaction.
+fn put<S: Alter>(tx: &mut Transaction<'_, S>, row: &TurnRow<'_>) -> Result<(), Error>
+    ensures same_reference { tx.new.conn.ghost_name ≡ tx.old.conn.ghost_name }
+    ensures ok { HasCleanDisk (state S.Store tx.new.conn.now) → OnOk result ((head : Head)
+        (ks : List KeptTurn) → ShowsTurns (state S.Store tx.old.conn.now) head ks
+        → ShowsTurns (state S.Store tx.new.conn.now) head (ks ++ kept row.now ∷ [])) }
+    ensures inside { HasCleanDisk (state S.Store tx.new.conn.now) → OnOk result
+        (IsTrue (state S.Store tx.new.conn.now).in_transaction) }
+    ensures err { HasCleanDisk (state S.Store tx.new.conn.now)
+        → IsTrue (state S.Store tx.old.conn.now).in_transaction
+        → IfErr result (λ error. ExecutesInside 0 insert_turn_text (cells (kept row.now))
+        (state S.Store tx.old.conn.now) (state S.Store tx.new.conn.now) (Err error)) }
+    ensures survives { Survives (state S.Store tx.old.conn.now) (state S.Store tx.new.conn.now) (λ _. ⊥) }
 {
     let values = row.cells();
-    match conn.execute(INSERT_TURN, &values) {
-        Ok(_) => Ok(()),
-        Err(error) => Err(error),
-    }
+    tx.execute(INSERT_TURN, &values)?;
+    Ok(())
 }
 
 /// The rows of the turns after the first `after`, in their order, at most 1,024 of them.

@@ -14,6 +14,7 @@ use crate::replaying::answer;
 use crate::serving_kept::serve;
 use hd_catalogue_commands::{check, import_sheets, tell_option};
 use hd_command_line::{Order, parse};
+use hd_desk_commands::do_at_desk;
 use hd_door_commands::{show, stop, tell_status};
 use hd_journal_commands::{
     begin_journal, carry_over, check_journal, join_library, print_views, show_journal,
@@ -85,6 +86,7 @@ fn carry_out<R: Threads + Wait + Clock + Sync>(
         Order::JournalShow(order) => Ok(show_journal(host, order)?),
         Order::JournalViews(order) => Ok(print_views(host, order)?),
         Order::Show(order) => Ok(show(host, order)?),
+        Order::Desk(order) => Ok(do_at_desk(host, order)?),
         Order::Status(order) => Ok(tell_status(host, order)?),
         Order::Stop(order) => Ok(stop(host, order)?),
     }

@@ -48,6 +48,7 @@ pub(crate) fn serve_in_memory<R: Threads + Wait + Clock + Sync>(
 ) -> Result<(), Fault> {
     let library = Library::read_at(host, files, zone_offset(rt, host, order)?)?;
     let extensions = extensions_of(host, &order.extended, &library.catalogue)?;
+    eprintln!(host; "in memory: a stop loses everything")?;
     let listener = listen(host, order, &library.catalogue)?;
     let journal = library.journal(host)?;
     let serving = Serving {
@@ -101,6 +102,7 @@ pub(crate) fn serve_by<
                 observer,
                 door,
                 page,
+                has_lines: serving.order.has_door_lines,
                 files: serving.files,
                 last_commit: serving.last_commit,
             };

@@ -1,5 +1,7 @@
 //! Serving terminals with a journal that is kept in a file.
 
+ghost use Rattle.std.specs.Prelude.{◌≡◌};
+
 use crate::door::open_door;
 use crate::fault::Fault;
 use crate::observing::Teller;
@@ -7,9 +9,10 @@ use crate::serving::{Serving, listen_with_turns, serve_by, serve_in_memory, tell
 use crate::zone::zone_offset;
 use hd_command_line::Serve;
 use hd_door::Door;
-use hd_durable::{DurableJournal, DurableKeeper, LastCommit, TurnTable};
+use hd_durable::{Back, DurableJournal, DurableKeeper, LastCommit, TurnTable};
 use hd_folder::{FolderFault, Paths, log_path, try_page};
 use hd_hall::CataloguedKeeper;
+use hd_history::{History, Opened};
 use hd_journal_file::JournalFile;
 use hd_library::{Library, SetupFault, extensions_of};
 use hd_library_journal::{Keeping, LibraryJournalFault, end_kept, open_over};
@@ -18,6 +21,7 @@ use hd_serve::Observer;
 use hd_server::{Summary, summary_of};
 use hd_turn_store::{Alter, Connection, FileStore, Start, Unknown, Wary};
 use sqlite_disk::Disk;
+use std::marker::Brand;
 use std::sync::Wait;
 use std::thread::Threads;
 use std::time::Clock;
@@ -165,10 +169,27 @@ fn serve_durable<R: Threads + Wait + Clock + Sync, T: TurnTable + Drop + Send>(
     journal: DurableJournal<T>,
     serving: &Serving<'_>,
 ) -> Result<(Summary, T), Fault> {
+    serve_in::<Brand, R, T>(rt, host, Opened::new(), journal, serving)
+}
+
+/// The same in a history of its own: the journal in memory is under the hall's lock, and what commits its turns
+/// beside it.
+fn serve_in<J: History + Send + Sync, R: Threads + Wait + Clock + Sync, T: TurnTable + Drop + Send>(
+    rt: &R,
+    host: &HostRuntime,
+    opened: Opened,
+    journal: DurableJournal<T>,
+    serving: &Serving<'_>,
+) -> Result<(Summary, T), Fault>
+    requires book { opened.seen.book ≡ J.book }
+    requires opening { J.opening ≡ record { contents = journal.contents; begun = journal.turns } }
+{
     let turns = journal.front();
-    let timed = DurableKeeper::new(journal.timed(rt, serving.last_commit));
-    let listener = listen_with_turns(host, turns, timed.catalogue(), serving.order)?;
-    let served = serve_by(rt, host, listener, timed, serving)?.into_journal();
+    let (back, memory) = Back::<J, T>::open(host.alloc(), opened, journal)?;
+    let keeper = DurableKeeper::new(rt, serving.last_commit, &back, memory);
+    let listener = listen_with_turns(host, turns, keeper.catalogue(), serving.order)?;
+    let memory = serve_by(rt, host, listener, keeper, serving)?.into_memory();
+    let served = back.into_journal(memory)?;
     let summary = summary_of(served.answered_journal()?);
-    Ok((summary, served.into_table().into_table()))
+    Ok((summary, served.into_table()))
 }

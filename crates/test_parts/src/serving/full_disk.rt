@@ -6,7 +6,7 @@ use hd_catalogue::Catalogue;
 use hd_hall::{CataloguedKeeper, Keeper, Turns};
 use hd_journal::{Ask, Journal, Look, OwnedAsk, Turn, TurnFault, TurnRef, WriteFault};
 use std::alloc::{AllocError, Global};
-use std::sync::Arc;
+use std::sync::{Arc, Wait};
 
 /// A journal in memory whose keeper can write so many turns.
 #[derive(Drop)]
@@ -50,6 +50,19 @@ impl Keeper<Global, OwnedAsk<Global>> for FullDisk {
     ghost causes = { λ old ask new. IsMemoryOrUnwritten };
 
     ghost shut = { λ disk. None };
+
+    /// Nobody waits: what it can write is written at once.
+    type Ticket = ();
+
+    ghost covers = { λ ticket turns. Unit {0} };
+
+    ghost safe = { λ turns. Unit {0} };
+
+    fn ticket(&self) {}
+
+    fn settle<R: Wait>(_rt: &R, _ticket: ()) -> Result<(), WriteFault> {
+        Ok(())
+    }
 
     fn own(alloc: Global, ask: &Ask<'_>) -> Result<OwnedAsk<Global>, AllocError> {
         OwnedAsk::of(alloc, ask)

@@ -10,8 +10,9 @@ use Rattle.hd_door.proofs.hearing.hear.Goals as goal
 
 -- what is kept is what was taken, also behind what came before
 taken_behind : (first before after : Option (List ℕ)) (old new : List ℕ)
-    → Consumes first before old → Comes before after old new → Consumes first after new
-taken_behind first before after old new had comes =
+    → (limit : ℕ) → Consumes first before old → Comes limit before after old new
+    → Consumes first after new
+taken_behind first before after old new limit had comes =
     rw comes.behind (Consumes-trans first before after old comes.came had comes.taken)
 
 -- why no more came is why there is no request, where what came before makes no head
@@ -31,7 +32,7 @@ reason_behind fails first before after had Memory taken short none why = tt
 
 pub returns-then-not-wants_more-clause-heard : goal.returns-then-not-wants_more-clause-heard
 returns-then-not-wants_more-clause-heard g c = (
-  taken_behind _ _ _ _ _ c.loop-from.invariant.taken c.in_ok-hear_more.ensures.comes,
+  taken_behind _ _ _ _ _ _ c.loop-from.invariant.taken c.in_ok-hear_more.ensures.comes,
   c.in_ok-hear_more.ensures.comes.most,
   search rules,
 )

@@ -5,6 +5,7 @@ use Rattle.hd_catalogue.specs.Contents.{Contents, facts_of}
 use Rattle.hd_rules.specs.Journal.{Turn, IsLegal}
 use Rattle.hd_rules.specs.Messages.{IsKnownMessage}
 use Rattle.hd_journal.specs.Shown.{turn_shown}
+use Rattle.hd_durable.proofs.Committing.{one_known}
 use Rattle.hd_durable.proofs.Durability.{last_is, last_there}
 use Rattle.hd_durable.proofs.journal.commit_last.Goals as goal
 
@@ -20,11 +21,13 @@ commit-requires g c =
     last_is c.args.journal.now.turns c.requires.last.0 c.requires.last.1 (length c.args.journal.now.turns)
     (turn_shown c.in-Some.last)
     c.requires.last.2 refl (ap (option_map turn_shown) (sym c.in-Some.is) ∙ c.last_turn.ensures)
-    in subst (λ (x : Turn). IsKnownMessage (facts_of (g.T.TurnTable.contents c.args.table.now)) x.message)
+    in one_known (λ (x : Turn). IsKnownMessage (facts_of (g.T.TurnTable.contents c.args.table.now)) x.message)
+    (turn_shown c.in-Some.last)
+    (subst (λ (x : Turn). IsKnownMessage (facts_of (g.T.TurnTable.contents c.args.table.now)) x.message)
     (sym last)
     (subst (λ (k : Contents). IsKnownMessage (facts_of k) c.requires.last.1.message)
     (sym c.requires.catalogue)
-    c.requires.last.3)
+    c.requires.last.3))
 
 pub returns-clause-ok : goal.returns-clause-ok
 returns-clause-ok g c =
@@ -62,7 +65,7 @@ pub returns-clause-why : goal.returns-clause-why
 returns-clause-why g c =
     IfErr-weaker c.commit.result _ _
     (λ why refused turns turn is.
-    subst (λ (x : Turn). g.T.TurnTable.refuses c.args.table.now x c.commit.new.self why)
+    subst (λ (x : Turn). g.T.TurnTable.refuses c.args.table.now (x ∷ []) c.commit.new.self why)
     (last_is c.args.journal.now.turns turns turn (length c.args.journal.now.turns)
     (turn_shown c.in-Some.last) is refl
     (ap (option_map turn_shown) (sym c.in-Some.is) ∙ c.last_turn.ensures))

@@ -10,7 +10,6 @@ returns c k answered left found = (
       (legal_changing k (start k) (answered ++ found.more) found.legal),
   (
     found.more,
-    found.few,
     subst (λ (ts : List Turn). state_after k ts ≡ state_after k (answered ++ found.more)) (sym found.is)
         (state_changing k (start k) (answered ++ found.more)),
   ),

@@ -1,4 +1,4 @@
-use Rattle.std.proofs.Common.{refl, sym, subst, ap, ◌∙◌, inl, inr, Option, None}
+use Rattle.std.proofs.Common.{refl, sym, subst, ap, ◌∙◌, inl, inr, Option, None, [], ◌∷◌}
 use Rattle.std.proofs.lemmas.Bool.{not-false, not-true}
 use Rattle.std.proofs.lemmas.Result.{err_from_is_err_and}
 use Rattle.hd_catalogue.specs.Contents.{facts_of}
@@ -125,9 +125,9 @@ returns-in-Err-clause-why g c = (
     sym (ap (λ (d : DurableValue g.row.T.Denot). d.shut) c.self.view_is) ∙ c.in_default.is,
     subst
         (λ (d : DurableValue g.row.T.Denot). refuses_turn_of
-        (λ turn. g.T.TurnTable.refuses d.table turn c.commit_last.new.table) c.args.ask c.in-Err.why)
+        (λ turn. g.T.TurnTable.refuses d.table (turn ∷ []) c.commit_last.new.table) c.args.ask c.in-Err.why)
         c.self.view_is
-        (refused_one (λ turn. g.T.TurnTable.refuses c.self.inside.table turn c.commit_last.new.table)
+        (refused_one (λ turn. g.T.TurnTable.refuses c.self.inside.table (turn ∷ []) c.commit_last.new.table)
         c.self.inside.journal c.take_new.new.self c.args.ask
         c.in_ok-new.new.made c.in-Err.why c.in_ok-new.ensures.turn c.in-Err.ensures.why),
   ),

@@ -1,4 +1,4 @@
-use Rattle.std.proofs.Common.{refl}
+use Rattle.std.proofs.Common.{rules, refl, ◌≡◌, None}
 use Rattle.std.proofs.lemmas.Result.{IfErr-weaker, on_ok_weaker}
 use Rattle.hd_hall.specs.Submitting.{IsStrangeTo}
 use Rattle.hd_hall.proofs.Looking.{look_no_memory, look_of_any_ask, look_of_any_seat, shown_journal}
@@ -6,8 +6,9 @@ use Rattle.hd_hall.proofs.counter.CounterOffice.look.Goals as goal
 
 pub returns-clause-saw : goal.returns-clause-saw
 returns-clause-saw g c =
+    let none : c.args.self.now.untold ≡ None = search rules in
     on_ok_weaker c.look_from.result
-    (λ saw. (saw.0, shown_journal _ _ _ saw.1, (c.args.self.now.seat.now.receipts, refl, saw.1), saw.2))
+    (λ saw. (saw.0, shown_journal _ _ _ saw.1, (c.args.self.now.seat.now.receipts, rw none refl, saw.1), saw.2))
     c.look_from.ensures.saw
 
 pub returns-clause-why : goal.returns-clause-why

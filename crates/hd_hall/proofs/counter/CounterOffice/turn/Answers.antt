@@ -1,8 +1,7 @@
-use Rattle.std.proofs.Common.{sym, ap, ◌∙◌, ◌∷◌, [], ◌≡◌, Result, Ok, Err}
+use Rattle.std.proofs.Common.{rules, sym, ap, ◌∙◌, ◌∷◌, [], ◌≡◌, None, Result, Ok, Err}
 use Rattle.std.proofs.lemmas.List.{map-append}
 use Rattle.std.proofs.lemmas.Result.{IfErr-weaker}
 use Rattle.std.specs.Prelude.{IfOk, map}
-use Rattle.hd_rules.specs.Journal.{Turn}
 use Rattle.hd_rules.specs.Messages.{message_of}
 use Rattle.hd_journal.specs.declared.fault.TurnFault.{TurnFault}
 use Rattle.hd_journal.specs.declared.turn.Turn.{Turn as Made}
@@ -23,12 +22,15 @@ of_both (Err why) P Q R follows p q = tt
 pub returns-clause-made : goal.returns-clause-made
 returns-clause-made g c =
     let before = c.args.self.now.seat.now.receipts in
+    let none : c.args.self.now.untold ≡ None = search rules in
     of_both c.submit.result _ _ _
     (λ made kept next. record {
-      turn = ap (λ (s : SeatView). map (λ (r : Receipted). r.turn) s.receipts) kept
-          ∙ map-append (λ (r : Receipted). r.turn) before (receipt_of (message_of c.args.ask.now) made ∷ []);
-      number = sym (ap (λ (s : SeatView). number_of_last s.receipts) kept
-          ∙ number_of_last-snoc before (receipt_of (message_of c.args.ask.now) made));
+      turn = rw (kept.0, none)
+          (ap (λ (s : SeatView). map (λ (r : Receipted). r.turn) s.receipts) kept.1
+          ∙ map-append (λ (r : Receipted). r.turn) before (receipt_of (message_of c.args.ask.now) made ∷ []));
+      number = rw kept.0
+          (sym (ap (λ (s : SeatView). number_of_last s.receipts) kept.1
+          ∙ number_of_last-snoc before (receipt_of (message_of c.args.ask.now) made)));
       reply = next_fits _ _ _ next;
       names = next_known _ _ _ next;
     })

@@ -1,24 +1,7 @@
-use Rattle.std.proofs.Common.{List, IfErr, OnOk, subst}
-use Rattle.hd_hall.specs.Faults.{IsLookFault}
-use Rattle.hd_hall.specs.Receipts.{Receipted, HoldsLast}
-use Rattle.hd_hall.specs.Submitting.{IsStrangeTo}
-use Rattle.hd_hall.proofs.Looking.{shown_to, strange_look}
 use Rattle.hd_hall.proofs.hall.Hall.look_from.Goals as goal
 
-pub returns-clause-saw : goal.returns-clause-saw
-returns-clause-saw g c =
-    let turns = g.K.Turns.turns c.deref.result.now.keeper in
-    shown_to g.H.House.opening turns c.args.seat.now.receipts
-    (λ book. g.L.Look.saw c.args.reader.now book c.look.new.reader)
-    c.look.result c.look.ensures.legal c.look.ensures.saw
-    (subst (λ (rs : List Receipted). OnOk c.look.result (HoldsLast turns rs)) c.receipts.ensures.receipts
-    c.look.ensures.holds)
-
-pub returns-clause-why : goal.returns-clause-why
-returns-clause-why g c =
-    subst
-    (λ (rs : List Receipted). IfErr c.look.result
-    (IsLookFault g.K.Keeper.faults (IsStrangeTo g.H.House.opening rs)))
-    c.receipts.ensures.receipts
-    (strange_look g.H.House.opening (g.K.Turns.turns c.deref.result.now.keeper) c.receipts.result.now
-    g.K.Keeper.faults c.look.result c.look.ensures.legal c.look.ensures.why)
+-- what the reader saw is settled
+pub returns-in-Ok-clause-safe : goal.returns-in-Ok-clause-safe
+returns-in-Ok-clause-safe g c =
+    let shown = c.in_ok-ticket.ensures.covers in
+    (shown.0, shown.1, shown.2, c.in-Ok.ensures.safe shown.1 shown.3, shown.4)

@@ -6,9 +6,8 @@ pub returns-clause-next : goal.returns-clause-next
 returns-clause-next g c =
     next_of g.H.House.opening (g.K.Turns.turns c.deref_mut.result.now.keeper)
     (g.K.Turns.turns c.submit.new.self.keeper)
-    c.args.receipts.now (g.K.Keeper.asks c.args.own) c.submit.result c.submit.ensures.legal
-    c.submit.ensures.turn
-    c.submit.ensures.holds
+    c.args.receipts.now (g.K.Keeper.asks c.args.own) g.K.Keeper.covers c.submit.result c.submit.ensures.legal
+    c.submit.ensures.turn c.submit.ensures.holds
 
 pub returns-clause-why : goal.returns-clause-why
 returns-clause-why g c =

@@ -3,5 +3,5 @@ use Rattle.hd_queue.proofs.WaitingLemmas.{copy-wanted}
 use Rattle.hd_queue.proofs.view.QueueView.for_copy.Goals as goal
 
 pub returns : goal.returns
-returns g c = rw (← c.self.view_is)
-    (c.new.ensures ∙ rw c.self.invariant.2.for_one (copy-wanted c.args.copy c.self.inside.holds))
+returns g c =
+    rw (← c.self.view_is) (c.new.ensures ∙ copy-wanted c.args.copy c.self.inside.holds c.self.inside.for_one c.self.invariant.2.for_one)
