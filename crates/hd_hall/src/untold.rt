@@ -8,16 +8,10 @@ use std::alloc::Allocator;
 use std::marker::{Model, PhantomData};
 
 /// Why nobody was answered with a turn that was made: a reason that the hall's keeper can give.
+#[derive(Drop)]
 pub(crate) struct Untold<A: Allocator, Q: Drop, K: Keeper<A, Q>> {
     why: WriteFault,
     of: PhantomData<(A, Q, K)>,
-}
-
-// Written out, so that a caller's proof sees one call and not the drop of each field.
-impl<A: Allocator, Q: Drop, K: Keeper<A, Q>> Drop for Untold<A, Q, K> {
-    fn drop(self) {
-        let Untold { why: _why, of: _of } = self;
-    }
 }
 
 impl<A: Allocator, Q: Drop, K: Keeper<A, Q>> Model for Untold<A, Q, K> {
