@@ -2,7 +2,7 @@
 
 use crate::fault::CatalogueCommandFault;
 use crate::hints::is_rounded;
-use crate::opening::{Opened, opened};
+use crate::opening::{Opened, make_opening};
 use crate::opening_sheets::OpeningSources;
 use crate::patrons_file::{is_of_patrons_file, patrons_text};
 use crate::sheet_faults::{list_sheet_faults, odd_byte};
@@ -164,7 +164,7 @@ fn opening_of(
         holds: source_of(asked.holds.unwrap_or("the holds"), sheets.holds.as_slice()),
         shelf: source_of(asked.shelf.unwrap_or("the shelf"), sheets.shelf.as_slice()),
     };
-    opened(rt, catalogue, format_of(order), sources)
+    make_opening(rt, catalogue, format_of(order), sources)
 }
 
 /// The bytes of a sheet; none, where there is no sheet.

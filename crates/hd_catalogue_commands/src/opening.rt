@@ -23,7 +23,7 @@ pub(crate) struct Opened {
 ///
 /// # Errors
 /// The faults of the sheets, all in one; out of memory.
-pub(crate) fn opened(
+pub(crate) fn make_opening(
     rt: &HostRuntime,
     catalogue: &[u8],
     format: Format,

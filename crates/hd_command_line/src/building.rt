@@ -1,6 +1,6 @@
 //! The program's commands, put together from their words.
 
-use crate::commands::{below_journal, carry_and_import, check_and_replay, serve};
+use crate::commands::{below_journal, carry, check_and_replay, import, serve};
 use crate::desk_texts::{DESK, DESK_ABOUT};
 use crate::desk_words::{DESK_OPTIONS, below_desk};
 use crate::door_commands::status_and_stop;
@@ -18,7 +18,8 @@ pub(crate) fn program<'a>(alloc: Global) -> Result<Command<'a>, AllocError> {
     let command = Command::new(alloc, "holddesk").version(VERSION);
     let command = with(alloc, above(command, ABOUT), check_and_replay())?;
     let command = with(alloc, command, serve())?;
-    let command = with(alloc, command, carry_and_import())?;
+    let command = with(alloc, command, carry())?;
+    let command = with(alloc, command, import())?;
     let command = command.subcommand(journal(alloc)?)?;
     let command = command.subcommand(show(alloc, Shower::Server)?)?;
     let command = command.subcommand(desk(alloc)?)?;

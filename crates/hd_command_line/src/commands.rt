@@ -36,9 +36,14 @@ pub(crate) fn serve() -> &'static [CommandWords] {
     &SERVE_ALONE
 }
 
-/// The words of `carry` and `import`.
-pub(crate) fn carry_and_import() -> &'static [CommandWords] {
-    &CARRY_AND_IMPORT
+/// The words of `carry`.
+pub(crate) fn carry() -> &'static [CommandWords] {
+    &CARRY_ALONE
+}
+
+/// The words of `import`.
+pub(crate) fn import() -> &'static [CommandWords] {
+    &IMPORT_ALONE
 }
 
 /// The words of the commands below `journal`, but for `show`.
@@ -104,56 +109,56 @@ static SERVE_ALONE: [CommandWords; 1] = [CommandWords {
     groups: &[LIBRARY_OR_FILES, SERVED, KEPT],
 }];
 
-/// The words of `carry` and `import`.
-static CARRY_AND_IMPORT: [CommandWords; 2] = [
-    CommandWords {
-        name: "carry",
-        about: CARRY_ABOUT,
-        long_about: CARRY,
-        example: CARRY_EXAMPLE,
-        options: &[
-            CATALOGUE_OR_FOLDER,
-            OPENING,
-            LIBRARY,
-            JOURNAL_OR_FOLDER,
-            TO,
-            INTO,
-            WRITE_OFF,
-            KEEP_USED,
-            MOST_GONE,
-        ],
-        groups: &[LIBRARY_OR_FILES],
-    },
-    CommandWords {
-        name: "import",
-        about: IMPORT_ABOUT,
-        long_about: IMPORT,
-        example: IMPORT_EXAMPLE,
-        options: &[
-            SHEET_OF_BRANCHES,
-            SHEET_OF_TERMINALS,
-            SHEET_OF_PATRONS,
-            SHEET_OF_TITLES,
-            SHEET_OF_COPIES,
-            INTO_CATALOGUE,
-            INSTITUTION,
-            OFFSET,
-            COMMANDS_LIMIT,
-            LOAN_LIMIT,
-            LOAN_DAYS,
-            RENEWALS,
-            FROM,
-            SEPARATOR,
-            SHEET_OF_LOANS,
-            SHEET_OF_HOLDS,
-            SHEET_OF_SHELF,
-            INTO_OPENING,
-            CATALOGUE_OF_OPENING,
-            INTO_PATRONS,
-        ],
-        groups: &[],
-    },
-];
+/// The words of `carry`.
+static CARRY_ALONE: [CommandWords; 1] = [CommandWords {
+    name: "carry",
+    about: CARRY_ABOUT,
+    long_about: CARRY,
+    example: CARRY_EXAMPLE,
+    options: &[
+        CATALOGUE_OR_FOLDER,
+        OPENING,
+        LIBRARY,
+        JOURNAL_OR_FOLDER,
+        TO,
+        INTO,
+        WRITE_OFF,
+        KEEP_USED,
+        MOST_GONE,
+    ],
+    groups: &[LIBRARY_OR_FILES],
+}];
+
+/// The words of `import`.
+static IMPORT_ALONE: [CommandWords; 1] = [CommandWords {
+    name: "import",
+    about: IMPORT_ABOUT,
+    long_about: IMPORT,
+    example: IMPORT_EXAMPLE,
+    options: &[
+        SHEET_OF_BRANCHES,
+        SHEET_OF_TERMINALS,
+        SHEET_OF_PATRONS,
+        SHEET_OF_TITLES,
+        SHEET_OF_COPIES,
+        INTO_CATALOGUE,
+        INSTITUTION,
+        OFFSET,
+        COMMANDS_LIMIT,
+        LOAN_LIMIT,
+        LOAN_DAYS,
+        RENEWALS,
+        FROM,
+        SEPARATOR,
+        SHEET_OF_LOANS,
+        SHEET_OF_HOLDS,
+        SHEET_OF_SHELF,
+        INTO_OPENING,
+        CATALOGUE_OF_OPENING,
+        INTO_PATRONS,
+    ],
+    groups: &[],
+}];
 
 /// The words of the commands below `journal`, but for `show`.
 static BELOW_JOURNAL: [CommandWords; 4] = [
