@@ -13,36 +13,29 @@ use crate::house::House;
 use crate::seat::Seat;
 use crate::untold::Untold;
 use hd_catalogue::Catalogue;
-use hd_journal::{Ask, Journal, Keeper, Look, Office, OwnedAsk, SeatNo, Turn, TurnFault};
+use hd_journal::{Ask, Journal, Keeper, Look, Office, SeatNo, Turn, TurnFault};
 use std::alloc::{Allocator, Global};
 use std::sync::Wait;
 
 /// A seat of a hall, as an office: its turns are the seat's receipts, but for a last one with which nobody was
 /// answered.
 #[derive(Drop)]
-pub struct Counter<
-    'a,
-    H: House,
-    R: Wait,
-    A: Allocator = Global,
-    Q: Drop = OwnedAsk<A>,
-    K: Keeper<A, Q> = Journal<A>,
-> {
+pub struct Counter<'a, H: House, R: Wait, A: Allocator = Global, K: Keeper<A> = Journal<A>> {
     rt: &'a R,
-    hall: &'a Hall<H, A, Q, K>,
+    hall: &'a Hall<H, A, K>,
     seat: &'a mut Seat<H, A>,
     /// Why nobody was answered with the seat's last turn, where nobody was.
-    untold: Option<Untold<A, Q, K>>,
+    untold: Option<Untold<A, K>>,
     ghost held: { seat.now.parts ≡ 1 },
 }
 
-impl<'a, H: House, R: Wait, A: Allocator, Q: Drop, K: Keeper<A, Q>> Counter<'a, H, R, A, Q, K> {
+impl<'a, H: House, R: Wait, A: Allocator, K: Keeper<A>> Counter<'a, H, R, A, K> {
     /// The counter of a seat, which was opened by this hall.
     pub fn new(
         rt: &'a R,
-        hall: &'a Hall<H, A, Q, K>,
+        hall: &'a Hall<H, A, K>,
         seat: &'a mut Seat<H, A>,
-    ) -> Counter<'a, H, R, A, Q, K>
+    ) -> Counter<'a, H, R, A, K>
         requires { seat.old.parts ≡ 1 }
         ensures same_reference { result.seat.ghost_name ≡ seat.entry.ghost_name }
         ensures seat { result.seat.now ≡ seat.old }
@@ -57,14 +50,7 @@ impl<'a, H: House, R: Wait, A: Allocator, Q: Drop, K: Keeper<A, Q>> Counter<'a, 
     }
 }
 
-impl<'a, H: House, R: Wait, A: Allocator + Copy, Q: Drop, K: Keeper<A, Q> + Drop> Counter<
-    'a,
-    H,
-    R,
-    A,
-    Q,
-    K,
-> {
+impl<'a, H: House, R: Wait, A: Allocator + Copy, K: Keeper<A> + Drop> Counter<'a, H, R, A, K> {
     /// One turn: what a terminal of this seat asks. The terminal, and all that it asks, are of the hall's
     /// catalogue.
     ///
@@ -107,8 +93,8 @@ impl<'a, H: House, R: Wait, A: Allocator + Copy, Q: Drop, K: Keeper<A, Q> + Drop
     }
 }
 
-impl<'a, H: House, R: Wait, A: Allocator + Copy, Q: Drop, K: Keeper<A, Q> + Drop> Office<A>
-    for Counter<'a, H, R, A, Q, K> {
+impl<'a, H: House, R: Wait, A: Allocator + Copy, K: Keeper<A> + Drop> Office<A>
+    for Counter<'a, H, R, A, K> {
     ghost use Rattle.std.specs.Prelude.{map, [], ◌∷◌};
     ghost use Rattle.hd_hall.specs.Faults.{IsHallFault};
     ghost use Rattle.hd_hall.specs.Looking.{IsShownWith};

@@ -32,15 +32,15 @@ use std::sync::{Arc, Mutex, Wait};
 /// Under the lock are the journal's keeper, the book of the ledger, the parts that no seat has and the number
 /// of seats opened. The journal is always legal. Each new seat has the number after the last one's, from 1
 /// on.
-pub struct Hall<H: House, A: Allocator = Global, Q: Drop = OwnedAsk<A>, K: Turns = Journal<A>> {
+pub struct Hall<H: House, A: Allocator = Global, K: Turns = Journal<A>> {
     pub(crate) alloc: A,
     pub(crate) catalogue: Arc<Catalogue<A>, A>,
-    pub(crate) shared: Mutex<HallState<H, A, Q, K>>,
+    pub(crate) shared: Mutex<HallState<H, A, K>>,
     ghost ours: { arc_value catalogue ≡ H.opening.contents },
 }
 
 // Written out, so that a caller's proof sees one call and not the drop of each field.
-impl<H: House, A: Allocator, Q: Drop, K: Turns + Drop> Drop for Hall<H, A, Q, K> {
+impl<H: House, A: Allocator, K: Turns + Drop> Drop for Hall<H, A, K> {
     fn drop(self) {
         let Hall {
             alloc: _alloc,
@@ -63,11 +63,11 @@ pub struct Closed<H: House, K: Turns> {
 
 /// Why a hall did not close. The seats come back as they were.
 #[derive(Drop)]
-pub enum NotClosed<H: House, A: Allocator = Global, Q: Drop = OwnedAsk<A>, K: Turns = Journal<A>> {
+pub enum NotClosed<H: House, A: Allocator = Global, K: Turns = Journal<A>> {
     /// More seats were opened than were handed in.
     SeatMissing {
         /// The hall.
-        hall: Hall<H, A, Q, K>,
+        hall: Hall<H, A, K>,
         /// The seats that were handed in.
         seats: Vec<Seat<H, A>, A>,
         /// How many seats were opened.
@@ -84,14 +84,14 @@ pub enum NotClosed<H: House, A: Allocator = Global, Q: Drop = OwnedAsk<A>, K: Tu
     },
 }
 
-impl<H: House, A: Allocator + Copy, Q: Drop, K: CataloguedKeeper<A, Q> + Drop> Hall<H, A, Q, K> {
+impl<H: House, A: Allocator + Copy, K: CataloguedKeeper<A> + Drop> Hall<H, A, K> {
     /// A hall round a journal without turns since its keeper was made, with a new ledger, whose parts are one
     /// for each seat and one more.
     ///
     /// # Errors
     /// `Memory`, where the catalogue has as many owners as can be counted: no memory is asked for. The
     /// journal is dropped then.
-    pub fn new(alloc: A, keeper: K, blank: Blank) -> Result<Hall<H, A, Q, K>, TurnFault>
+    pub fn new(alloc: A, keeper: K, blank: Blank) -> Result<Hall<H, A, K>, TurnFault>
         requires turns { K.turns keeper ≡ [] }
         requires opening { K.opening keeper ≡ H.opening }
         requires name { blank.name ≡ H.name }
@@ -107,7 +107,7 @@ impl<H: House, A: Allocator + Copy, Q: Drop, K: CataloguedKeeper<A, Q> + Drop> H
     }
 }
 
-impl<H: House, A: Allocator + Copy, Q: Drop, K: Turns + Drop> Hall<H, A, Q, K> {
+impl<H: House, A: Allocator + Copy, K: Turns + Drop> Hall<H, A, K> {
     ghost use Rattle.hd_hall.specs.NotClosing.{Misses};
 
     /// The catalogue.
@@ -139,7 +139,7 @@ impl<H: House, A: Allocator + Copy, Q: Drop, K: Turns + Drop> Hall<H, A, Q, K> {
     /// # Errors
     /// `SeatMissing` exactly where fewer seats are handed in than were opened, and `ReceiptDiffers` where
     /// some turn has no receipt. The seats come back as they were.
-    pub fn close(self, seats: Vec<Seat<H, A>, A>) -> Result<Closed<H, K>, NotClosed<H, A, Q, K>>
+    pub fn close(self, seats: Vec<Seat<H, A>, A>) -> Result<Closed<H, K>, NotClosed<H, A, K>>
         requires parts { H.parts ≡ 4294967296 }
         requires seats { EachSeat seats.items (λ s. s.parts ≡ 1) }
         ensures all { IfOk result (λ closed.
@@ -158,7 +158,7 @@ impl<H: House, A: Allocator + Copy, Q: Drop, K: Turns + Drop> Hall<H, A, Q, K> {
     }
 }
 
-impl<H: House, A: Allocator + Copy, Q: Drop, K: Keeper<A, Q> + Drop> Hall<H, A, Q, K> {
+impl<H: House, A: Allocator + Copy, K: Keeper<A> + Drop> Hall<H, A, K> {
     /// One turn: what a terminal of this seat asks. The seat was opened by this hall; the terminal, and all
     /// that it asks, are of the hall's catalogue.
     ///
@@ -315,7 +315,7 @@ impl<H: House, A: Allocator + Copy, Q: Drop, K: Keeper<A, Q> + Drop> Hall<H, A, 
         &self,
         receipts: &mut Vec<StoredReceipt<A>, A>,
         ask: &Ask<'_>,
-    ) -> Result<(OwnedAsk<A>, Q), AllocError>
+    ) -> Result<(OwnedAsk<A>, K::AskCopy), AllocError>
         requires { HasRoom (length receipts.old.items) (vec_capacity receipts.old) }
         ensures items { receipts.new.items ≡ receipts.old.items }
         ensures still { HasRoom (length receipts.new.items) (vec_capacity receipts.new) }
@@ -337,7 +337,7 @@ impl<H: House, A: Allocator + Copy, Q: Drop, K: Keeper<A, Q> + Drop> Hall<H, A, 
         rt: &R,
         receipts: &[StoredReceipt<A>],
         share: &mut Share<H>,
-        own: Q,
+        own: K::AskCopy,
     ) -> Result<(Turn, K::Ticket), TurnFault>
         requires part { 0 < share.old.parts }
         requires known { IsKnownMessage (facts_of H.opening.contents) (K.asks own).message }

@@ -32,19 +32,18 @@ use std::sync::{Arc, Mutex};
 ///
 /// The keeper comes out by `close` alone.
 #[derive(Drop)]
-pub(crate) struct HallState<H: House, A: Allocator, Q: Drop, K: Turns> {
+pub(crate) struct HallState<H: House, A: Allocator, K: Turns> {
     keeper: K,
     book: Book<H>,
     tickets: Tickets<H>,
     of: PhantomData<A>,
-    asks: PhantomData<Q>,
     ghost ours: { K.opening keeper ≡ H.opening },
     ghost counted: { book.total ≡ length (K.turns keeper) },
 }
 
-impl<H: House, A: Allocator, Q: Drop, K: Turns> HallState<H, A, Q, K> {
+impl<H: House, A: Allocator, K: Turns> HallState<H, A, K> {
     /// A journal without turns since its keeper was made, and all parts of the ledger.
-    pub(crate) fn new(keeper: K, blank: Blank) -> HallState<H, A, Q, K>
+    pub(crate) fn new(keeper: K, blank: Blank) -> HallState<H, A, K>
         requires turns { K.turns keeper ≡ [] }
         requires opening { K.opening keeper ≡ H.opening }
         requires name { blank.name ≡ H.name }
@@ -57,7 +56,6 @@ impl<H: House, A: Allocator, Q: Drop, K: Turns> HallState<H, A, Q, K> {
             book,
             tickets: Tickets::new(rest),
             of: PhantomData,
-            asks: PhantomData,
         }
     }
 
@@ -75,7 +73,7 @@ impl<H: House, A: Allocator, Q: Drop, K: Turns> HallState<H, A, Q, K> {
     }
 }
 
-impl<H: House, A: Allocator, Q: Drop, K: Keeper<A, Q>> HallState<H, A, Q, K> {
+impl<H: House, A: Allocator, K: Keeper<A>> HallState<H, A, K> {
     /// Makes the turn of what is asked, counted in the share, where the journal holds the last of these
     /// receipts: the turn, and the ticket of the turns up to it.
     ///
@@ -86,7 +84,7 @@ impl<H: House, A: Allocator, Q: Drop, K: Keeper<A, Q>> HallState<H, A, Q, K> {
         &mut self,
         receipts: &[StoredReceipt<A>],
         share: &mut Share<H>,
-        own: Q,
+        own: K::AskCopy,
     ) -> Result<(Turn, K::Ticket), TurnFault>
         requires asked { (0 < share.old.parts)
             × IsKnownMessage (facts_of H.opening.contents) (K.asks own).message }
@@ -215,7 +213,7 @@ impl<H: House, A: Allocator, Q: Drop, K: Keeper<A, Q>> HallState<H, A, Q, K> {
     }
 }
 
-impl<H: House, A: Allocator, Q: Drop, K: Turns + Drop> HallState<H, A, Q, K> {
+impl<H: House, A: Allocator, K: Turns + Drop> HallState<H, A, K> {
     ghost use Rattle.hd_hall.specs.NotClosing.{CountsOpened, Misses};
 
     /// The journal, whose turns are the receipts of these seats, each once. The seats are as many as were
@@ -229,7 +227,7 @@ impl<H: House, A: Allocator, Q: Drop, K: Turns + Drop> HallState<H, A, Q, K> {
         alloc: A,
         catalogue: Arc<Catalogue<A>, A>,
         mut seats: Vec<Seat<H, A>, A>,
-    ) -> Result<Closed<H, K>, NotClosed<H, A, Q, K>>
+    ) -> Result<Closed<H, K>, NotClosed<H, A, K>>
         requires house { (arc_value catalogue ≡ H.opening.contents) × (H.parts ≡ 4294967296) }
         requires seats { EachSeat seats.items (λ s. s.parts ≡ 1) }
         // the seats that were opened are all there, and with them all parts of the ledger

@@ -9,12 +9,12 @@ use std::marker::{Model, PhantomData};
 
 /// Why nobody was answered with a turn that was made: a reason that the hall's keeper can give.
 #[derive(Drop)]
-pub(crate) struct Untold<A: Allocator, Q: Drop, K: Keeper<A, Q>> {
+pub(crate) struct Untold<A: Allocator, K: Keeper<A>> {
     why: WriteFault,
-    of: PhantomData<(A, Q, K)>,
+    of: PhantomData<(A, K)>,
 }
 
-impl<A: Allocator, Q: Drop, K: Keeper<A, Q>> Model for Untold<A, Q, K> {
+impl<A: Allocator, K: Keeper<A>> Model for Untold<A, K> {
     ghost use Rattle.hd_journal.specs.declared.fault.WriteFault.{WriteFault};
     ghost use Rattle.hd_journal.specs.declared.fault.TurnFault.TheVariants.{Unwritten};
 
@@ -25,9 +25,9 @@ impl<A: Allocator, Q: Drop, K: Keeper<A, Q>> Model for Untold<A, Q, K> {
     ghost invariant = { λ untold. K.faults (Unwritten untold.why) };
 }
 
-impl<A: Allocator, Q: Drop, K: Keeper<A, Q>> Untold<A, Q, K> {
+impl<A: Allocator, K: Keeper<A>> Untold<A, K> {
     /// For this reason.
-    pub(crate) fn new(why: WriteFault) -> Untold<A, Q, K>
+    pub(crate) fn new(why: WriteFault) -> Untold<A, K>
         requires { K.faults (Unwritten why) }
         ensures { result ≡ why }
     {

@@ -44,11 +44,12 @@ pub trait Turns {
 
 /// What takes the turns of a legal journal, under a hall's lock: the journal alone, or whatever does more
 /// with each turn before it is answered.
-///
-/// `Q` is what it keeps of an ask, made before the lock is taken.
-pub trait Keeper<A: Allocator, Q: Drop>: Turns {
+pub trait Keeper<A: Allocator>: Turns {
+    /// What it keeps of an ask, made before the lock is taken.
+    type AskCopy: Drop + Send;
+
     /// What that asks.
-    ghost asks: { Q → SeatMessage };
+    ghost asks: { Self.AskCopy → SeatMessage };
 
     /// The faults that it can give: out of memory, or a turn that couldn't be written.
     ghost faults: { TurnFault → Type 0 };
@@ -60,7 +61,7 @@ pub trait Keeper<A: Allocator, Q: Drop>: Turns {
     ghost shut: { Self → Option WriteFault };
 
     /// What a caller waits for, with no lock held, before it answers with turns of this keeper.
-    type Ticket: Drop;
+    type Ticket: Drop + Send;
 
     /// That a ticket is of these turns.
     ghost covers: { Self.Ticket → List Turn → Type 0 };
@@ -84,7 +85,7 @@ pub trait Keeper<A: Allocator, Q: Drop>: Turns {
     ///
     /// # Errors
     /// Out of memory, which only a line needs.
-    fn own(alloc: A, ask: &Ask<'_>) -> Result<Q, AllocError>
+    fn own(alloc: A, ask: &Ask<'_>) -> Result<Self::AskCopy, AllocError>
         ensures same { IfOk result (λ own. asks own ≡ message_of ask.now) }
         ensures no_line { ask.now.line ≡ None → IsOk result };
 
@@ -92,7 +93,7 @@ pub trait Keeper<A: Allocator, Q: Drop>: Turns {
     ///
     /// # Errors
     /// Those of `faults`, each for its cause. No turn is answered then.
-    fn take(&mut self, own: Q) -> Result<Turn, TurnFault>
+    fn take(&mut self, own: Self::AskCopy) -> Result<Turn, TurnFault>
         requires { IsKnownMessage (facts_of (Self.opening self.old).contents) (asks own).message }
         ensures turn { IfOk result (λ made.
             IsAdded (Self.turns self.old) (Self.turns self.new) (asks own) made) }
@@ -121,7 +122,7 @@ pub trait Keeper<A: Allocator, Q: Drop>: Turns {
 }
 
 /// A keeper that has its catalogue at hand, so that a hall can be opened round it.
-pub trait CataloguedKeeper<A: Allocator, Q: Drop>: Keeper<A, Q> {
+pub trait CataloguedKeeper<A: Allocator>: Keeper<A> {
     /// The catalogue.
     fn catalogue(&self) -> &Arc<Catalogue<A>, A>
         ensures { arc_value result.now ≡ (Self.opening self.now).contents };

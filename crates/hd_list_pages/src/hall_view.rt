@@ -14,7 +14,7 @@ use crate::state_reader::StateReader;
 use hd_desk::Meter;
 use hd_hall::{Hall, House};
 use hd_http::{Health, Outcome, State, View, ViewFault};
-use hd_journal::{Journal, Keeper, Look, OwnedAsk, Turns};
+use hd_journal::{Journal, Keeper, Look, Turns};
 use hd_list_rows::PageReader;
 use hd_lists::Question;
 use std::alloc::{AllocError, Allocator, Global};
@@ -22,24 +22,17 @@ use std::sync::{Mutex, Wait};
 
 /// A view of a hall: each answer is of one look at its journal.
 #[derive(Drop)]
-pub struct HallView<
-    'a,
-    R,
-    H: House,
-    A: Allocator = Global,
-    Q: Drop = OwnedAsk<A>,
-    K: Turns = Journal<A>,
-> {
+pub struct HallView<'a, R, H: House, A: Allocator = Global, K: Turns = Journal<A>> {
     rt: &'a R,
     host: &'a HostRuntime,
-    hall: &'a Hall<H, A, Q, K>,
+    hall: &'a Hall<H, A, K>,
     /// The turns behind so many are counted by kind and outcome.
     begun: usize,
     /// What is counted of the journal, as far as it has been shown.
     reader: Mutex<StateReader>,
 }
 
-impl<'a, R, H: House, A: Allocator + Copy, Q: Drop, K: Turns + Drop> HallView<'a, R, H, A, Q, K> {
+impl<'a, R, H: House, A: Allocator + Copy, K: Turns + Drop> HallView<'a, R, H, A, K> {
     /// A view of the hall. Its journal's turns behind so many are counted by kind and outcome.
     ///
     /// # Errors
@@ -47,9 +40,9 @@ impl<'a, R, H: House, A: Allocator + Copy, Q: Drop, K: Turns + Drop> HallView<'a
     pub fn new(
         rt: &'a R,
         host: &'a HostRuntime,
-        hall: &'a Hall<H, A, Q, K>,
+        hall: &'a Hall<H, A, K>,
         begun: usize,
-    ) -> Result<HallView<'a, R, H, A, Q, K>, AllocError>
+    ) -> Result<HallView<'a, R, H, A, K>, AllocError>
         ensures { IfOk result (λ view. view.begun ≡ begun) }
     {
         let reader = Mutex::new(reader_of(host.alloc(), hall, begun)?);
@@ -67,9 +60,9 @@ impl<'a, R, H: House, A: Allocator + Copy, Q: Drop, K: Turns + Drop> HallView<'a
 ///
 /// # Errors
 /// There is no memory for the terminals.
-fn reader_of<H: House, A: Allocator + Copy, Q: Drop, K: Turns + Drop>(
+fn reader_of<H: House, A: Allocator + Copy, K: Turns + Drop>(
     alloc: Global,
-    hall: &Hall<H, A, Q, K>,
+    hall: &Hall<H, A, K>,
     begun: usize,
 ) -> Result<StateReader, AllocError>
     ensures begun { IfOk result (λ reader. reader.tallied.begun ≡ begun) }
@@ -79,14 +72,7 @@ fn reader_of<H: House, A: Allocator + Copy, Q: Drop, K: Turns + Drop>(
     StateReader::new(alloc, begun, hall.catalogue().terminals())
 }
 
-impl<'a, R: Wait, H: House, A: Allocator + Copy, Q: Drop, K: Keeper<A, Q> + Drop> HallView<
-    'a,
-    R,
-    H,
-    A,
-    Q,
-    K,
-> {
+impl<'a, R: Wait, H: House, A: Allocator + Copy, K: Keeper<A> + Drop> HallView<'a, R, H, A, K> {
     /// Has a reader look at the journal.
     ///
     /// # Errors
@@ -137,8 +123,8 @@ impl<'a, R: Wait, H: House, A: Allocator + Copy, Q: Drop, K: Keeper<A, Q> + Drop
     }
 }
 
-impl<'a, R: Wait, H: House, A: Allocator + Copy, Q: Drop, K: Keeper<A, Q> + Drop> View
-    for HallView<'a, R, H, A, Q, K> {
+impl<'a, R: Wait, H: House, A: Allocator + Copy, K: Keeper<A> + Drop> View
+    for HallView<'a, R, H, A, K> {
     ghost use Rattle.hd_hall.specs.Looking.{IsShownTo};
     ghost use Rattle.hd_list_pages.specs.Seeing.{Shows};
     ghost use Rattle.hd_list_pages.specs.Counting.{AreTallied};

@@ -32,13 +32,13 @@ const NO_CONNECTION: usize = 0;
 
 /// Plays lines as terminals of a hall, each time by a session of its own at a seat of its own.
 #[derive(Drop)]
-pub struct LinePlayer<'a, H: House, R, O: Observer, Q: Drop, K: Turns> {
+pub struct LinePlayer<'a, H: House, R, O: Observer, K: Turns> {
     /// The clock, and the waiting for locks.
     pub rt: &'a R,
     /// Where memory is taken.
     pub alloc: Global,
     /// The hall.
-    pub hall: &'a Hall<H, Global, Q, K>,
+    pub hall: &'a Hall<H, Global, K>,
     /// Its seats.
     pub seats: &'a Seats<H>,
     /// The state of the server.
@@ -49,14 +49,13 @@ pub struct LinePlayer<'a, H: House, R, O: Observer, Q: Drop, K: Turns> {
     pub observer: &'a O,
 }
 
-impl<
+impl<'a, H: House, R: Wait + Clock, O: Gate + Observer, K: Keeper<Global> + Drop> LinePlayer<
     'a,
-    H: House,
-    R: Wait + Clock,
-    O: Gate + Observer,
-    Q: Drop,
-    K: Keeper<Global, Q> + Drop,
-> LinePlayer<'a, H, R, O, Q, K> {
+    H,
+    R,
+    O,
+    K,
+> {
     /// Plays lines as the terminal of this name: a session that stands as it from its start is fed them, at
     /// one present, and its replies are appended, each with a line feed behind its carriage return. Reports
     /// it.

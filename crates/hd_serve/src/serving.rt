@@ -43,12 +43,7 @@ use std::time::Clock;
 /// read, whatever has come by then, those that wait aren't begun, and the hall is closed. `NotClosed` where
 /// the hall doesn't close. `NoThread` where no thread could be started, and `Memory` where the start is out
 /// of memory: nothing was served then.
-pub fn serve<
-    R: Threads + Wait + Clock + Sync,
-    G: Gate,
-    Q: Drop + Send,
-    K: CataloguedKeeper<Global, Q> + Drop + Send,
->(
+pub fn serve<R: Threads + Wait + Clock + Sync, G: Gate, K: CataloguedKeeper<Global> + Drop + Send>(
     rt: &R,
     alloc: Global,
     listener: TcpListener,
@@ -71,8 +66,7 @@ pub fn serve<
 pub fn serve_observed<
     R: Threads + Wait + Clock + Sync,
     O: Gate + Observer,
-    Q: Drop + Send,
-    K: CataloguedKeeper<Global, Q> + Drop + Send,
+    K: CataloguedKeeper<Global> + Drop + Send,
 >(
     rt: &R,
     alloc: Global,
@@ -87,7 +81,7 @@ pub fn serve_observed<
     ensures legal { IfOk result (λ closed. IsLegalSince (K.opening closed) (K.turns closed)) }
 {
     let blank = Blank::new(4_294_967_296);
-    serve_in::<Brand, R, O, Q, K>(rt, alloc, &listener, keeper, blank, options, observer)
+    serve_in::<Brand, R, O, K>(rt, alloc, &listener, keeper, blank, options, observer)
 }
 
 /// The same in a hall of a house.
@@ -95,8 +89,7 @@ fn serve_in<
     H: House + Send + Sync,
     R: Threads + Wait + Clock + Sync,
     O: Gate + Observer,
-    Q: Drop + Send,
-    K: CataloguedKeeper<Global, Q> + Drop + Send,
+    K: CataloguedKeeper<Global> + Drop + Send,
 >(
     rt: &R,
     alloc: Global,
@@ -117,7 +110,7 @@ fn serve_in<
     let Ok(standing) = Standing::of(alloc, listener) else {
         return Err(ServeFault::CannotListen);
     };
-    let Ok(hall) = Hall::<H, Global, Q, K>::new(alloc, keeper, blank) else {
+    let Ok(hall) = Hall::<H, Global, K>::new(alloc, keeper, blank) else {
         return Err(ServeFault::Memory);
     };
     let seats = Seats::new(alloc);

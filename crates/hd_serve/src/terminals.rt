@@ -12,7 +12,7 @@ use crate::gate::{Gate, Observer};
 use crate::options::Options;
 use crate::places::Places;
 use crate::standing::Standing;
-use crate::worker::Service;
+use crate::worker::{Service, SharedKeeper};
 use crossbeam_channel::{Sender, bounded};
 use hd_hall::{Closed, Hall, House, Keeper, Seat, Turns};
 use hd_journal::WriteFault;
@@ -78,9 +78,9 @@ impl<H: House> Served<H> {
     /// # Errors
     /// `NotClosed` where the hall doesn't close; the fault of the accepting, if it ended with one;
     /// `Unwritten` where a turn couldn't be written.
-    pub fn close<Q: Drop, K: Turns + Drop>(
+    pub fn close<K: Turns + Drop>(
         self,
-        hall: Hall<H, Global, Q, K>,
+        hall: Hall<H, Global, K>,
     ) -> Result<Closed<H, K>, ServeFault>
         requires parts { H.parts ≡ 4294967296 }
         ensures opening { IfOk result (λ closed. K.opening closed.keeper ≡ H.opening) }
@@ -134,12 +134,11 @@ pub fn serve_terminals<
     H: House + Send + Sync,
     R: Threads + Wait + Clock + Sync,
     O: Gate + Observer,
-    Q: Drop + Send,
-    K: Keeper<Global, Q> + Drop + Send,
+    K: Keeper<Global> + Drop + Send,
 >(
     rt: &R,
     alloc: Global,
-    hall: &Hall<H, Global, Q, K>,
+    hall: &Hall<H, Global, K>,
     seats: &Seats<H>,
     listener: &TcpListener,
     standing: &Standing,
@@ -171,11 +170,10 @@ fn serve_by<
     H: House + Send + Sync,
     R: Threads + Wait + Clock + Sync,
     O: Gate + Observer,
-    Q: Drop + Send,
-    K: Keeper<Global, Q> + Drop + Send,
+    K: SharedKeeper + Drop + Send,
 >(
     rt: &R,
-    service: &Service<'_, H, Q, K>,
+    service: &Service<'_, H, K>,
     listener: &TcpListener,
     to: Sender<Connection>,
     observer: &O,

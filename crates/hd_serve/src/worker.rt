@@ -32,11 +32,17 @@ use std::net::TcpStream;
 use std::sync::{Mutex, Wait};
 use std::time::{Clock, Duration, Instant};
 
+/// The keeper of a hall whose workers are threads. It has no argument of its own: a closure that is passed to a
+/// thread may rest on such a bound alone.
+pub(crate) trait SharedKeeper: Keeper<Global> {}
+
+impl<K: Keeper<Global>> SharedKeeper for K {}
+
 /// What the workers of a server share.
 #[derive(Drop)]
-pub(crate) struct Service<'a, H: House, Q: Drop, K: Turns> {
+pub(crate) struct Service<'a, H: House, K: Turns> {
     pub(crate) alloc: Global,
-    pub(crate) hall: &'a Hall<H, Global, Q, K>,
+    pub(crate) hall: &'a Hall<H, Global, K>,
     pub(crate) places: &'a Mutex<Places<H>>,
     pub(crate) from: &'a Receiver<Connection>,
     pub(crate) standing: &'a Standing,
@@ -62,7 +68,7 @@ struct Visited {
     replies: u64,
 }
 
-impl<'a, H: House, Q: Drop, K: Keeper<Global, Q> + Drop> Service<'a, H, Q, K> {
+impl<'a, H: House, K: SharedKeeper + Drop> Service<'a, H, K> {
     /// Serves connections, until no more can come.
     pub(crate) fn work<R: Wait + Clock, O: Gate + Observer>(&self, rt: &R, observer: &O) {
         for _ in rt.forever() {

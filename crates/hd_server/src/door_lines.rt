@@ -12,13 +12,13 @@ use std::time::Clock;
 
 /// Plays the lines that are posted at a door, where that is on.
 #[derive(Drop)]
-pub(crate) struct DoorLines<'a, H: House, R, O: Observer, Q: Drop, K: Turns> {
+pub(crate) struct DoorLines<'a, H: House, R, O: Observer, K: Turns> {
     pub(crate) is_on: bool,
-    pub(crate) player: LinePlayer<'a, H, R, O, Q, K>,
+    pub(crate) player: LinePlayer<'a, H, R, O, K>,
 }
 
-impl<'a, H: House, R: Wait + Clock, O: Gate + Observer, Q: Drop, K: Keeper<Global, Q> + Drop> Player
-    for DoorLines<'a, H, R, O, Q, K> {
+impl<'a, H: House, R: Wait + Clock, O: Gate + Observer, K: Keeper<Global> + Drop> Player
+    for DoorLines<'a, H, R, O, K> {
     ghost use Rattle.hd_exchange.specs.Extensions.{extensions_lent};
     ghost use Rattle.hd_hall.specs.Faults.{IsHallFault};
     ghost use Rattle.hd_server.specs.Lines.{IsPlaying};

@@ -55,8 +55,7 @@ pub fn serve_seen<
     'x,
     R: Threads + Wait + Clock + Sync,
     O: Gate + Observer,
-    Q: Drop + Send,
-    K: CataloguedKeeper<Global, Q> + Drop + Send,
+    K: CataloguedKeeper<Global> + Drop + Send,
 >(
     rt: &'x R,
     host: &'x HostRuntime,
@@ -72,7 +71,7 @@ pub fn serve_seen<
     ensures fault { IfErr result IsOfServe }
 {
     let blank = Blank::new(4_294_967_296);
-    let closed = serve_in::<Brand, R, O, Q, K>(rt, host, &listener, keeper, blank, options, sight)?;
+    let closed = serve_in::<Brand, R, O, K>(rt, host, &listener, keeper, blank, options, sight)?;
     Ok(closed)
 }
 
@@ -82,8 +81,7 @@ fn serve_in<
     H: House + Send + Sync,
     R: Threads + Wait + Clock + Sync,
     O: Gate + Observer,
-    Q: Drop + Send,
-    K: CataloguedKeeper<Global, Q> + Drop + Send,
+    K: CataloguedKeeper<Global> + Drop + Send,
 >(
     rt: &'x R,
     host: &'x HostRuntime,
@@ -106,7 +104,7 @@ fn serve_in<
         return Err(ServeFault::CannotListen);
     };
     let begun = turns_of(&keeper);
-    let Ok(hall) = Hall::<H, Global, Q, K>::new(alloc, keeper, blank) else {
+    let Ok(hall) = Hall::<H, Global, K>::new(alloc, keeper, blank) else {
         return Err(ServeFault::Memory);
     };
     let seen = Seen {
@@ -156,7 +154,7 @@ fn serve_in<
 }
 
 /// How many turns a journal has, if it is shown.
-fn turns_of<Q: Drop, K: Keeper<Global, Q>>(keeper: &K) -> usize
+fn turns_of<K: Keeper<Global>>(keeper: &K) -> usize
     ensures { K.shut keeper.now ≡ None
         → result ≡ length ((K.opening keeper.now).begun ++ K.turns keeper.now) }
 {

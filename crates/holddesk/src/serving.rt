@@ -77,11 +77,7 @@ pub(crate) fn listen_with_turns(
 }
 
 /// Serves terminals that connect at a port, and, where there is a door, whoever looks in.
-pub(crate) fn serve_by<
-    R: Threads + Wait + Clock + Sync,
-    Q: Drop + Send,
-    K: CataloguedKeeper<Global, Q> + Drop + Send,
->(
+pub(crate) fn serve_by<R: Threads + Wait + Clock + Sync, K: CataloguedKeeper<Global> + Drop + Send>(
     rt: &R,
     host: &HostRuntime,
     listener: TcpListener,

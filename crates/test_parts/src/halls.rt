@@ -56,15 +56,14 @@ fn is_clash_well<R: Threads + Wait + Sync>(rt: &R, host: &HostRuntime) -> bool {
 fn clash_at<
     H: House + Send + Sync,
     R: Threads + Wait + Sync,
-    Q: Drop + Send,
-    K: CataloguedKeeper<Global, Q> + Drop + Send,
+    K: CataloguedKeeper<Global> + Drop + Send,
 >(rt: &R, alloc: Global, keeper: K, blank: Blank) -> Option<K>
     requires turns { K.turns keeper ≡ [] }
     requires opening { K.opening keeper ≡ H.opening }
     requires name { blank.name ≡ H.name }
     requires parts { (blank.parts ≡ H.parts) × (H.parts ≡ 4294967296) }
 {
-    match Hall::<H, Global, Q, K>::new(alloc, keeper, blank) {
+    match Hall::<H, Global, K>::new(alloc, keeper, blank) {
         Ok(hall) => two_terminals_clash(rt, alloc, hall),
         Err(_) => None,
     }
@@ -85,15 +84,14 @@ fn are_looks_well<R: Threads + Wait + Sync>(rt: &R, host: &HostRuntime) -> bool 
 fn looks_at<
     H: House + Send + Sync,
     R: Threads + Wait + Sync,
-    Q: Drop + Send,
-    K: CataloguedKeeper<Global, Q> + Drop + Send,
+    K: CataloguedKeeper<Global> + Drop + Send,
 >(rt: &R, alloc: Global, keeper: K, blank: Blank) -> bool
     requires turns { K.turns keeper ≡ [] }
     requires opening { K.opening keeper ≡ H.opening }
     requires name { blank.name ≡ H.name }
     requires parts { (blank.parts ≡ H.parts) × (H.parts ≡ 4294967296) }
 {
-    match Hall::<H, Global, Q, K>::new(alloc, keeper, blank) {
+    match Hall::<H, Global, K>::new(alloc, keeper, blank) {
         Ok(hall) => look_beside(rt, &hall),
         Err(_) => false,
     }
@@ -123,7 +121,7 @@ fn is_left_by(rt: &HostRuntime, journal: &Journal, row: &Row) -> bool {
 }
 
 /// The keeper of a hall of this house at which a row was played. None where it went otherwise.
-fn row_at<H: House, R: Wait, Q: Drop, K: CataloguedKeeper<Global, Q> + Drop>(
+fn row_at<H: House, R: Wait, K: CataloguedKeeper<Global> + Drop>(
     rt: &R,
     alloc: Global,
     keeper: K,
@@ -135,17 +133,17 @@ fn row_at<H: House, R: Wait, Q: Drop, K: CataloguedKeeper<Global, Q> + Drop>(
     requires name { blank.name ≡ H.name }
     requires parts { (blank.parts ≡ H.parts) × (H.parts ≡ 4294967296) }
 {
-    match Hall::<H, Global, Q, K>::new(alloc, keeper, blank) {
+    match Hall::<H, Global, K>::new(alloc, keeper, blank) {
         Ok(hall) => play_row(rt, alloc, hall, row),
         Err(_) => None,
     }
 }
 
 /// Plays a row at a hall: its keeper. None where the row goes otherwise.
-fn play_row<H: House, R: Wait, Q: Drop, K: Keeper<Global, Q> + Drop>(
+fn play_row<H: House, R: Wait, K: Keeper<Global> + Drop>(
     rt: &R,
     alloc: Global,
-    hall: Hall<H, Global, Q, K>,
+    hall: Hall<H, Global, K>,
     row: &Row,
 ) -> Option<K>
     requires { H.parts ≡ 4294967296 }

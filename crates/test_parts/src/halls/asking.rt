@@ -10,9 +10,9 @@ use std::alloc::Global;
 use std::sync::Wait;
 
 /// Asks what a row asks, from its two seats: whether both replies are the row's.
-pub(crate) fn ask_both<H: House, R: Wait, Q: Drop, K: Keeper<Global, Q> + Drop>(
+pub(crate) fn ask_both<H: House, R: Wait, K: Keeper<Global> + Drop>(
     rt: &R,
-    hall: &Hall<H, Global, Q, K>,
+    hall: &Hall<H, Global, K>,
     one: &mut Seat<H>,
     two: &mut Seat<H>,
     row: &Row,
@@ -28,9 +28,9 @@ pub(crate) fn ask_both<H: House, R: Wait, Q: Drop, K: Keeper<Global, Q> + Drop>(
 }
 
 /// Asks this from a seat: the reply. None where the hall's catalogue lacks a name.
-pub(crate) fn ask<H: House, R: Wait, Q: Drop, K: Keeper<Global, Q> + Drop>(
+pub(crate) fn ask<H: House, R: Wait, K: Keeper<Global> + Drop>(
     rt: &R,
-    hall: &Hall<H, Global, Q, K>,
+    hall: &Hall<H, Global, K>,
     seat: &mut Seat<H>,
     names: &Names,
     deed: Deed,
@@ -43,9 +43,9 @@ pub(crate) fn ask<H: House, R: Wait, Q: Drop, K: Keeper<Global, Q> + Drop>(
 }
 
 /// The same by the numbers of the hall's catalogue.
-fn submit<H: House, R: Wait, Q: Drop, K: Keeper<Global, Q> + Drop>(
+fn submit<H: House, R: Wait, K: Keeper<Global> + Drop>(
     rt: &R,
-    hall: &Hall<H, Global, Q, K>,
+    hall: &Hall<H, Global, K>,
     seat: &mut Seat<H>,
     wish: &Wish,
 ) -> Result<TurnReply, HallFault>

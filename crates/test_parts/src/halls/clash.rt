@@ -15,9 +15,8 @@ use std::thread::{Threads, join};
 pub(crate) fn two_terminals_clash<
     H: House + Send + Sync,
     R: Threads + Wait + Sync,
-    Q: Drop + Send,
-    K: Keeper<Global, Q> + Drop + Send,
->(rt: &R, alloc: Global, hall: Hall<H, Global, Q, K>) -> Option<K>
+    K: Keeper<Global> + Drop + Send,
+>(rt: &R, alloc: Global, hall: Hall<H, Global, K>) -> Option<K>
     requires { H.parts ≡ 4294967296 }
 {
     match seats(rt, &hall) {
@@ -30,12 +29,12 @@ pub(crate) fn two_terminals_clash<
 }
 
 /// Has the one seat ask in one thread and the other in another.
-fn side_by_side<
-    H: House + Send + Sync,
-    R: Threads + Wait + Sync,
-    Q: Drop + Send,
-    K: Keeper<Global, Q> + Drop + Send,
->(rt: &R, hall: &Hall<H, Global, Q, K>, one: Seat<H>, two: Seat<H>) -> (Seat<H>, Seat<H>)
+fn side_by_side<H: House + Send + Sync, R: Threads + Wait + Sync, K: Keeper<Global> + Drop + Send>(
+    rt: &R,
+    hall: &Hall<H, Global, K>,
+    one: Seat<H>,
+    two: Seat<H>,
+) -> (Seat<H>, Seat<H>)
     requires one { one.parts ≡ 1 }
     requires two { two.parts ≡ 1 }
     ensures { (result.0.parts ≡ 1) × (result.1.parts ≡ 1) }
@@ -54,9 +53,9 @@ fn side_by_side<
 }
 
 /// Holds and cancels 50 times from a seat.
-fn ask_often<H: House, R: Wait, Q: Drop, K: Keeper<Global, Q> + Drop>(
+fn ask_often<H: House, R: Wait, K: Keeper<Global> + Drop>(
     rt: &R,
-    hall: &Hall<H, Global, Q, K>,
+    hall: &Hall<H, Global, K>,
     mut seat: Seat<H>,
     names: &Names,
 ) -> Seat<H>

@@ -9,9 +9,9 @@ use std::mem;
 use std::sync::Wait;
 
 /// Opens two seats.
-pub(crate) fn seats<H: House, R: Wait, Q: Drop, K: Turns + Drop>(
+pub(crate) fn seats<H: House, R: Wait, K: Turns + Drop>(
     rt: &R,
-    hall: &Hall<H, Global, Q, K>,
+    hall: &Hall<H, Global, K>,
 ) -> Option<(Seat<H>, Seat<H>)>
     ensures { IfSome result (λ two. (two.0.parts ≡ 1) × (two.1.parts ≡ 1)) }
 {
@@ -34,9 +34,9 @@ pub(crate) fn put_in_order<H: House>(one: &mut Seat<H>, two: &mut Seat<H>, closi
 
 /// Closes a hall with its two seats, which stand in the order in which they are handed in: its keeper. None
 /// where that doesn't go as it is to, as where there is no memory to hand in both.
-pub(crate) fn close<H: House, Q: Drop, K: Turns + Drop>(
+pub(crate) fn close<H: House, K: Turns + Drop>(
     alloc: Global,
-    hall: Hall<H, Global, Q, K>,
+    hall: Hall<H, Global, K>,
     first: Seat<H>,
     last: Seat<H>,
     closing: Closing,
@@ -54,8 +54,8 @@ pub(crate) fn close<H: House, Q: Drop, K: Turns + Drop>(
 }
 
 /// Closes a hall with one seat alone, which is told that the other is missing, and then with both.
-fn close_behind<H: House, Q: Drop, K: Turns + Drop>(
-    hall: Hall<H, Global, Q, K>,
+fn close_behind<H: House, K: Turns + Drop>(
+    hall: Hall<H, Global, K>,
     seats: Vec<Seat<H>>,
     last: Seat<H>,
 ) -> Option<K>
@@ -71,10 +71,10 @@ fn close_behind<H: House, Q: Drop, K: Turns + Drop>(
 
 /// Hands in one seat of two: the hall that isn't closed, and the seat as it was. None where it is told
 /// otherwise.
-fn one_is_missing<H: House, Q: Drop, K: Turns + Drop>(
-    hall: Hall<H, Global, Q, K>,
+fn one_is_missing<H: House, K: Turns + Drop>(
+    hall: Hall<H, Global, K>,
     seats: Vec<Seat<H>>,
-) -> Option<(Hall<H, Global, Q, K>, Vec<Seat<H>>)>
+) -> Option<(Hall<H, Global, K>, Vec<Seat<H>>)>
     requires parts { H.parts ≡ 4294967296 }
     requires seats { EachSeat seats.items (λ s. s.parts ≡ 1) }
     ensures { IfSome result (λ back. back.1.items ≡ seats.items) }
@@ -92,8 +92,8 @@ fn one_is_missing<H: House, Q: Drop, K: Turns + Drop>(
 }
 
 /// Closes a hall with these seats and one more.
-fn close_with<H: House, Q: Drop, K: Turns + Drop>(
-    hall: Hall<H, Global, Q, K>,
+fn close_with<H: House, K: Turns + Drop>(
+    hall: Hall<H, Global, K>,
     mut seats: Vec<Seat<H>>,
     last: Seat<H>,
 ) -> Option<K>

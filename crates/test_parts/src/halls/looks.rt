@@ -30,9 +30,8 @@ const TWO: Names = Names {
 pub(crate) fn look_beside<
     H: House + Send + Sync,
     R: Threads + Wait + Sync,
-    Q: Drop + Send,
-    K: Keeper<Global, Q> + Drop + Send,
->(rt: &R, hall: &Hall<H, Global, Q, K>) -> bool {
+    K: Keeper<Global> + Drop + Send,
+>(rt: &R, hall: &Hall<H, Global, K>) -> bool {
     let (seen, written) = join(
         rt,
         || -> bool { look_often(rt, hall) },
@@ -42,9 +41,9 @@ pub(crate) fn look_beside<
 }
 
 /// Looks at both patrons, again and again: whether no half of a turn is seen.
-fn look_often<H: House, R: Wait, Q: Drop, K: Keeper<Global, Q> + Drop>(
+fn look_often<H: House, R: Wait, K: Keeper<Global> + Drop>(
     rt: &R,
-    hall: &Hall<H, Global, Q, K>,
+    hall: &Hall<H, Global, K>,
 ) -> bool {
     let mut well = true;
     for _ in 0..500 {
@@ -56,9 +55,9 @@ fn look_often<H: House, R: Wait, Q: Drop, K: Keeper<Global, Q> + Drop>(
 }
 
 /// What a look at the hall sees of a patron.
-fn glance_at<H: House, R: Wait, Q: Drop, K: Keeper<Global, Q> + Drop>(
+fn glance_at<H: House, R: Wait, K: Keeper<Global> + Drop>(
     rt: &R,
-    hall: &Hall<H, Global, Q, K>,
+    hall: &Hall<H, Global, K>,
     patron: &'static [u8],
 ) -> Seen {
     let mut glance = Glance::at(patron);
@@ -67,12 +66,10 @@ fn glance_at<H: House, R: Wait, Q: Drop, K: Keeper<Global, Q> + Drop>(
 }
 
 /// Has the two terminals write, each in a thread of its own: whether each sees its turns.
-fn write_both<
-    H: House + Send + Sync,
-    R: Threads + Wait + Sync,
-    Q: Drop + Send,
-    K: Keeper<Global, Q> + Drop + Send,
->(rt: &R, hall: &Hall<H, Global, Q, K>) -> bool {
+fn write_both<H: House + Send + Sync, R: Threads + Wait + Sync, K: Keeper<Global> + Drop + Send>(
+    rt: &R,
+    hall: &Hall<H, Global, K>,
+) -> bool {
     let (one, two) = join(
         rt,
         || -> bool { write(rt, hall, &ONE) },
@@ -82,9 +79,9 @@ fn write_both<
 }
 
 /// Has a terminal write at a seat of its own: whether it sees each of its turns.
-fn write<H: House, R: Wait, Q: Drop, K: Keeper<Global, Q> + Drop>(
+fn write<H: House, R: Wait, K: Keeper<Global> + Drop>(
     rt: &R,
-    hall: &Hall<H, Global, Q, K>,
+    hall: &Hall<H, Global, K>,
     names: &Names,
 ) -> bool {
     match hall.seat(rt) {
@@ -95,9 +92,9 @@ fn write<H: House, R: Wait, Q: Drop, K: Keeper<Global, Q> + Drop>(
 
 /// Asks in each round, from a seat, for a hold, the return of a copy, which is then kept for it, and the end
 /// of the hold: whether each turn is seen from there.
-fn write_often<H: House, R: Wait, Q: Drop, K: Keeper<Global, Q> + Drop>(
+fn write_often<H: House, R: Wait, K: Keeper<Global> + Drop>(
     rt: &R,
-    hall: &Hall<H, Global, Q, K>,
+    hall: &Hall<H, Global, K>,
     seat: &mut Seat<H>,
     names: &Names,
 ) -> bool
@@ -116,9 +113,9 @@ fn write_often<H: House, R: Wait, Q: Drop, K: Keeper<Global, Q> + Drop>(
 
 /// Asks this from a seat: whether it is done, and a look from there then sees so many holds of the patron
 /// that are kept, and so many that wait.
-fn is_seen<H: House, R: Wait, Q: Drop, K: Keeper<Global, Q> + Drop>(
+fn is_seen<H: House, R: Wait, K: Keeper<Global> + Drop>(
     rt: &R,
-    hall: &Hall<H, Global, Q, K>,
+    hall: &Hall<H, Global, K>,
     seat: &mut Seat<H>,
     names: &Names,
     deed: Deed,

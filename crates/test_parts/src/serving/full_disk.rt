@@ -40,8 +40,10 @@ impl Turns for FullDisk {
     }
 }
 
-impl Keeper<Global, OwnedAsk<Global>> for FullDisk {
+impl Keeper<Global> for FullDisk {
     ghost use Rattle.hd_journal.specs.Faults.{IsMemoryOrUnwritten};
+
+    type AskCopy = OwnedAsk<Global>;
 
     ghost asks = { λ ask. ask };
 
@@ -80,7 +82,7 @@ impl Keeper<Global, OwnedAsk<Global>> for FullDisk {
     }
 }
 
-impl CataloguedKeeper<Global, OwnedAsk<Global>> for FullDisk {
+impl CataloguedKeeper<Global> for FullDisk {
     fn catalogue(&self) -> &Arc<Catalogue> {
         self.journal.desk().catalogue()
     }

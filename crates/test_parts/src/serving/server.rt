@@ -95,12 +95,7 @@ pub(crate) fn play<R: Threads + Wait + Clock + Sync, W: Row>(
 }
 
 /// The same from whatever keeps a journal without turns: what comes back.
-fn play_kept<
-    R: Threads + Wait + Clock + Sync,
-    W: Row,
-    Q: Drop + Send,
-    K: CataloguedKeeper<Global, Q> + Drop + Send,
->(
+fn play_kept<R: Threads + Wait + Clock + Sync, W: Row, K: CataloguedKeeper<Global> + Drop + Send>(
     rt: &R,
     alloc: Global,
     opened: Opened,
