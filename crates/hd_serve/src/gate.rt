@@ -5,7 +5,7 @@ ghost use Rattle.hd_log.specs.declared.event.Event.{Event as AnyEvent};
 use hd_log::{Event, Level};
 
 /// A gate. It is called before each turn of a session, outside any lock.
-pub trait Gate: Sync {
+pub trait Gate {
     /// Whether it was called for the session and the turn of these numbers. Only `before` makes this true. A
     /// gate that keeps no account of its calls takes each as made.
     ghost is_called: { Self → ℕ → ℕ → Bool } = { λ _ _ _. true };

@@ -43,7 +43,11 @@ use std::time::Clock;
 /// read, whatever has come by then, those that wait aren't begun, and the hall is closed. `NotClosed` where
 /// the hall doesn't close. `NoThread` where no thread could be started, and `Memory` where the start is out
 /// of memory: nothing was served then.
-pub fn serve<R: Threads + Wait + Clock + Sync, G: Gate, K: CataloguedKeeper<Global> + Drop + Send>(
+pub fn serve<
+    R: Threads + Wait + Clock + Sync,
+    G: Gate + Sync,
+    K: CataloguedKeeper<Global> + Drop + Send,
+>(
     rt: &R,
     alloc: Global,
     listener: TcpListener,
@@ -68,7 +72,7 @@ where
 /// Those of `serve`.
 pub fn serve_observed<
     R: Threads + Wait + Clock + Sync,
-    O: Gate + Observer,
+    O: Gate + Observer + Sync,
     K: CataloguedKeeper<Global> + Drop + Send,
 >(
     rt: &R,
@@ -94,7 +98,7 @@ where
 fn serve_in<
     H: House + Send + Sync,
     R: Threads + Wait + Clock + Sync,
-    O: Gate + Observer,
+    O: Gate + Observer + Sync,
     K: CataloguedKeeper<Global> + Drop + Send,
 >(
     rt: &R,

@@ -12,7 +12,7 @@ use crate::gate::{Gate, Observer};
 use crate::options::Options;
 use crate::places::Places;
 use crate::standing::Standing;
-use crate::worker::Service;
+use crate::worker::{Service, Work};
 use crossbeam_channel::{Sender, bounded};
 use hd_hall::{Closed, Hall, House, Seat, SharedKeeper, Turns};
 use hd_journal::WriteFault;
@@ -133,7 +133,7 @@ fn answer<T: Drop>(
 pub fn serve_terminals<
     H: House + Send + Sync,
     R: Threads + Wait + Clock + Sync,
-    O: Gate + Observer,
+    O: Gate + Observer + Sync,
     K: SharedKeeper + Drop + Send,
 >(
     rt: &R,
@@ -153,6 +153,8 @@ where
 {
     let (to, from) = bounded(alloc, options.workers as usize)?;
     let service = Service {
+        rt,
+        observer,
         alloc,
         hall,
         places: &seats.places,
@@ -160,7 +162,9 @@ where
         standing,
         options: *options,
     };
-    let end = serve_by(rt, &service, listener, to, observer);
+    let end = serve_by(
+        rt, alloc, &service, standing, options, listener, to, observer,
+    );
     Ok(Accepted { end })
 }
 
@@ -169,26 +173,20 @@ where
 ///
 /// # Errors
 /// Those of the accepting. `NoThread` where no worker could be started: nothing was served then.
-fn serve_by<
-    H: House + Send + Sync,
-    R: Threads + Wait + Clock + Sync,
-    O: Gate + Observer,
-    K: SharedKeeper + Drop + Send,
->(
+fn serve_by<R: Threads + Wait + Clock + Sync, O: Observer + Sync, W: Work + Sync>(
     rt: &R,
-    service: &Service<'_, H, K>,
+    alloc: Global,
+    worker: &W,
+    standing: &Standing,
+    options: &Options<'_>,
     listener: &TcpListener,
     to: Sender<Connection>,
     observer: &O,
-) -> Result<(), ServeFault>
-where
-    K::AskCopy: Send,
-    K::Ticket: Send,
-{
+) -> Result<(), ServeFault> {
     thread::scope(thread::scope_env(), rt, |scope| {
         let mut started = 0u32;
-        for _ in 0..service.options.workers {
-            if scope.spawn(|| service.work(rt, observer)).is_err() {
+        for _ in 0..options.workers {
+            if scope.spawn(|| worker.work()).is_err() {
                 break;
             }
             started = started.saturating_add(1);
@@ -196,14 +194,14 @@ where
         if started == 0 {
             return Err(ServeFault::NoThread);
         }
-        tell_few(observer, started, service.options.workers);
+        tell_few(observer, started, options.workers);
         let reception = Reception {
             rt,
-            alloc: service.alloc,
-            standing: service.standing,
+            alloc,
+            standing,
             options: Options {
                 workers: started,
-                ..service.options
+                ..*options
             },
             observer,
             to,

@@ -34,7 +34,9 @@ use std::time::{Clock, Duration, Instant};
 
 /// What the workers of a server share.
 #[derive(Drop)]
-pub(crate) struct Service<'a, H: House, K: Turns> {
+pub(crate) struct Service<'a, H: House, R, O: Observer, K: Turns> {
+    pub(crate) rt: &'a R,
+    pub(crate) observer: &'a O,
     pub(crate) alloc: Global,
     pub(crate) hall: &'a Hall<H, Global, K>,
     pub(crate) places: &'a Mutex<Places<H>>,
@@ -62,24 +64,33 @@ struct Visited {
     replies: u64,
 }
 
-impl<'a, H: House, K: SharedKeeper + Drop> Service<'a, H, K> {
+/// What a thread of a server does.
+pub(crate) trait Work {
     /// Serves connections, until no more can come.
-    pub(crate) fn work<R: Wait + Clock, O: Gate + Observer>(&self, rt: &R, observer: &O) {
-        for _ in rt.forever() {
-            match self.from.recv(rt) {
-                Ok(connection) => self.welcome(rt, observer, &connection),
+    fn work(&self);
+}
+
+impl<'a, H: House, R: Wait + Clock, O: Gate + Observer, K: SharedKeeper + Drop> Work
+    for Service<'a, H, R, O, K> {
+    fn work(&self) {
+        for _ in self.rt.forever() {
+            match self.from.recv(self.rt) {
+                Ok(connection) => self.welcome(self.rt, self.observer, &connection),
                 Err(_) => return,
             }
         }
     }
+}
 
+impl<'a, H: House, R: Wait + Clock, O: Gate + Observer, K: SharedKeeper + Drop> Service<
+    'a,
+    H,
+    R,
+    O,
+    K,
+> {
     /// Serves a connection to its end, and reports how it ended.
-    fn welcome<R: Wait + Clock, O: Gate + Observer>(
-        &self,
-        rt: &R,
-        observer: &O,
-        connection: &Connection,
-    ) {
+    fn welcome(&self, rt: &R, observer: &O, connection: &Connection) {
         let speaker = Speaker::new(self.alloc, observer, connection.session);
         let begin = Instant::now(rt);
         let served = self.serve_one(&Visit {
@@ -111,10 +122,7 @@ impl<'a, H: House, K: SharedKeeper + Drop> Service<'a, H, K> {
     /// # Errors
     /// Why nothing is read and nothing written: the server is to end, the system refuses the connection's
     /// options, memory for its seat or its session runs out, or no seat is left.
-    fn serve_one<R: Wait + Clock, O: Gate + Observer>(
-        &self,
-        visit: &Visit<'_, R, O>,
-    ) -> Result<Visited, End> {
+    fn serve_one(&self, visit: &Visit<'_, R, O>) -> Result<Visited, End> {
         self.standing.course(visit.rt).begin()?;
         let Ok(()) = prepare(&visit.connection.stream, self.options.idle) else {
             return Err(End::Read);
@@ -133,7 +141,7 @@ impl<'a, H: House, K: SharedKeeper + Drop> Service<'a, H, K> {
     /// Returns how a connection went, and its seat, when it has ended. Its end makes no difference to the
     /// others, with one exception: where the journal couldn't be written at a turn of its session, the server
     /// is to end, also if a reply couldn't be written either.
-    fn attend_one<R: Wait + Clock, O: Gate + Observer>(
+    fn attend_one(
         &self,
         visit: &Visit<'_, R, O>,
         mut state: Session<'_>,
@@ -155,7 +163,7 @@ impl<'a, H: House, K: SharedKeeper + Drop> Service<'a, H, K> {
     }
 
     /// Attends to a connection at a seat, and returns how it went.
-    fn attend_to<R: Wait + Clock, O: Gate + Observer>(
+    fn attend_to(
         &self,
         visit: &Visit<'_, R, O>,
         state: &mut Session<'_>,
@@ -176,7 +184,7 @@ impl<'a, H: House, K: SharedKeeper + Drop> Service<'a, H, K> {
     }
 
     /// The same with this writer of replies, which sends line feeds where the options have them.
-    fn attend_by<R: Wait + Clock, O: Gate + Observer, W: ReplyWriter + Drop>(
+    fn attend_by<W: ReplyWriter + Drop>(
         &self,
         visit: &Visit<'_, R, O>,
         state: &mut Session<'_>,
@@ -222,7 +230,7 @@ impl<'a, H: House, K: SharedKeeper + Drop> Service<'a, H, K> {
     }
 
     /// Reports once where nine tenths of the numbers for commands have been given.
-    fn notice_numbers<R: Wait, O: Observer>(&self, rt: &R, observer: &O) {
+    fn notice_numbers(&self, rt: &R, observer: &O) {
         let mut reader = CountsReader { counts: None };
         if self.hall.look(rt, &mut reader).is_err() {
             return;

@@ -54,7 +54,7 @@ pub struct Sight<'a, O: Observer> {
 pub fn serve_seen<
     'x,
     R: Threads + Wait + Clock + Sync,
-    O: Gate + Observer,
+    O: Gate + Observer + Sync,
     K: CataloguedKeeper<Global> + Drop + Send,
 >(
     rt: &'x R,
@@ -83,7 +83,7 @@ fn serve_in<
     'x,
     H: House + Send + Sync,
     R: Threads + Wait + Clock + Sync,
-    O: Gate + Observer,
+    O: Gate + Observer + Sync,
     K: CataloguedKeeper<Global> + Drop + Send,
 >(
     rt: &'x R,
@@ -130,7 +130,7 @@ fn serve_over<
     'x,
     H: House + Send + Sync,
     R: Threads + Wait + Clock + Sync,
-    O: Gate + Observer,
+    O: Gate + Observer + Sync,
     K: SharedKeeper + Drop + Send,
 >(
     rt: &'x R,

@@ -18,7 +18,7 @@ use std::time::Clock;
 ///
 /// # Errors
 /// `Serve`, with each of the faults of `hd_serve::serve`.
-pub fn serve<R: Threads + Wait + Clock + Sync, G: Gate>(
+pub fn serve<R: Threads + Wait + Clock + Sync, G: Gate + Sync>(
     rt: &R,
     alloc: Global,
     listener: TcpListener,

@@ -46,7 +46,7 @@ fn is_clash_well<R: Threads + Wait + Sync>(rt: &R, host: &HostRuntime) -> bool {
         return false;
     };
     let blank = Blank::new(4_294_967_296);
-    match clash_at::<Brand, R, _, _>(rt, host.alloc(), journal, blank) {
+    match clash_at::<Brand, R, _>(rt, host.alloc(), journal, blank) {
         Some(journal) => journal.front() == 200 && is_as_fresh(host, &journal),
         None => false,
     }
@@ -77,7 +77,7 @@ fn are_looks_well<R: Threads + Wait + Sync>(rt: &R, host: &HostRuntime) -> bool 
     match new_journal(host) {
         Some(journal) => {
             let blank = Blank::new(4_294_967_296);
-            looks_at::<Brand, R, _, _>(rt, host.alloc(), journal, blank)
+            looks_at::<Brand, R, _>(rt, host.alloc(), journal, blank)
         }
         None => false,
     }
@@ -109,7 +109,7 @@ fn is_row_well<R: Wait>(rt: &R, host: &HostRuntime, row: &Row) -> bool {
         return false;
     };
     let blank = Blank::new(4_294_967_296);
-    match row_at::<Brand, R, _, _>(rt, host.alloc(), journal, blank, row) {
+    match row_at::<Brand, R, _>(rt, host.alloc(), journal, blank, row) {
         Some(journal) => is_left_by(host, &journal, row),
         None => false,
     }

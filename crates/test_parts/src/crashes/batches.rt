@@ -13,6 +13,7 @@ pub(crate) const MOST_ROWS: u32 = 16;
 const BATCHES: u32 = 3;
 
 /// Rows of which each batch has as many, numbered from 1 by their seats.
+#[derive(Drop)]
 struct Batches {
     rows: u32,
     /// How many rows are committed.

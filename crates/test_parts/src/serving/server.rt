@@ -16,7 +16,7 @@ use std::thread::{Threads, join};
 use std::time::Clock;
 
 /// A row: what the terminals do, and what is called before each turn.
-pub(crate) trait Row: Gate {
+pub(crate) trait Row: Gate + Sync {
     /// What the terminals do, one after the other or side by side. Whether all went as it is to. Connections
     /// that haven't ended before end with it.
     fn play(&self, terminals: Vec<Terminal>) -> bool;
