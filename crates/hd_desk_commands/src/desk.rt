@@ -1,20 +1,20 @@
 //! What is done at a desk.
 
-use crate::asking::{
-    NOT_FOUND, answer_of, number_in, replies_to, reply_to, rows_of, terminal_of, text_in, undone,
-};
+use crate::account::tell_account;
+use crate::asking::{answer_of, number_in, reply_to, rows_of, terminal_of, text_in, undone};
 use crate::cancelling::cancel;
 use crate::message::{HoldMessage, Message};
 use crate::reply::{ReadReply, read_reply};
 use crate::said::Said;
-use crate::words::{day_in_words, last_day, why_in_words};
-use hd_command_line::{Deed, Desk, ListOrder, Show};
-use hd_door_commands::{DoorCommandFault, show};
+use crate::sending::send;
+use crate::words::{day_in_words, held_words, last_day, why_in_words};
+use hd_command_line::{Deed, Desk};
+use hd_door_client::Rows;
+use hd_door_commands::DoorCommandFault;
 use hd_lists::{Key, Listing};
 use hd_message::Mode;
 use serde_json::Value;
-use std::alloc::Global;
-use std::io::Write;
+use std::alloc::{AllocError, Global};
 
 /// The most bytes of a name.
 const LONGEST_NAME: usize = 60;
@@ -162,33 +162,66 @@ fn take_back(
         let why = why(alloc, &reply)?;
         return Ok(Said::not_done(format!(in alloc; "{copy} isn't back: {why}")?));
     }
-    let answer = answer_of(rt, order.door, Listing::Copy, Key::Name(copy.as_bytes()), 0)?;
-    let rows = rows_of(rt, order.door, answer)?;
-    match rows.rows().first() {
-        Some(row) => Ok(Said::done(whereabouts(alloc, copy, row)?)),
-        None => Ok(Said::done(format!(in alloc; "{copy} is back")?)),
+    Ok(Said::done(back_words(rt, order.door, copy)?))
+}
+
+/// That a copy is back, and where it goes, in words. It is back also where the server doesn't say more.
+///
+/// # Errors
+/// Out of memory.
+fn back_words(rt: &HostRuntime, door: &str, copy: &str) -> Result<String, AllocError> {
+    let alloc = rt.alloc();
+    if let Ok(rows) = rows_of_copy(rt, door, copy) {
+        if let Some(row) = rows.rows().first() {
+            return whereabouts(alloc, copy, row);
+        }
     }
+    format!(in alloc; "{copy} is back")
+}
+
+/// The rows that say where a copy is.
+///
+/// # Errors
+/// The server can't be asked.
+fn rows_of_copy(rt: &HostRuntime, door: &str, copy: &str) -> Result<Rows, DoorCommandFault> {
+    let answer = answer_of(rt, door, Listing::Copy, Key::Name(copy.as_bytes()), 0)?;
+    rows_of(rt, door, answer)
 }
 
 /// Where a copy is that is back, in words.
-fn whereabouts(alloc: Global, copy: &str, row: &Value) -> Result<String, DoorCommandFault> {
+///
+/// # Errors
+/// Out of memory.
+fn whereabouts(alloc: Global, copy: &str, row: &Value) -> Result<String, AllocError> {
     let branch = text_in(row, "branch");
     let patron = text_in(row, "patron");
     let to = text_in(row, "to");
-    Ok(match (text_in(row, "state"), patron.is_empty()) {
-        ("open shelf", _) => format!(in alloc; "{copy} is back, on the open shelf of {branch}")?,
+    match (text_in(row, "state"), patron.is_empty()) {
+        ("open shelf", _) => format!(in alloc; "{copy} is back, on the open shelf of {branch}"),
         ("hold shelf", _) => {
             let place = number_in(row, "place").unwrap_or(0);
             format!(in alloc;
                 "{copy} is back, for {patron}: place {place} on the hold shelf of {branch}"
-            )?
+            )
         }
-        ("in transit", true) => format!(in alloc; "{copy} is back: send it to {to}")?,
-        ("in transit", false) => format!(in alloc;
-            "{copy} is back: send it to {to}, for {patron}"
-        )?,
-        _ => format!(in alloc; "{copy} is back")?,
-    })
+        ("in transit", true) => format!(in alloc; "{copy} is back: send it to {to}"),
+        ("in transit", false) => format!(in alloc; "{copy} is back: send it to {to}, for {patron}"),
+        _ => format!(in alloc; "{copy} is back"),
+    }
+}
+
+/// The last day of a hold, as a message has it; no bytes where there is none.
+///
+/// # Errors
+/// It isn't of the form 2026-03-01; out of memory.
+fn expiry_of(alloc: Global, until: Option<&str>) -> Result<Vec<u8>, DoorCommandFault> {
+    let Some(day) = until else {
+        return Ok(Vec::new(alloc));
+    };
+    match last_day(alloc, day)? {
+        Some(date) => Ok(date),
+        None => Err(undone(alloc, "a day is written as 2026-03-01")),
+    }
 }
 
 /// Places a hold.
@@ -206,13 +239,7 @@ fn place_hold(
         alloc,
         &[patron, title, pickup.unwrap_or("-"), copy.unwrap_or("-")],
     )?;
-    let expiry = match until {
-        Some(day) => match last_day(alloc, day)? {
-            Some(date) => date,
-            None => return Err(undone(alloc, "a day is written as 2026-03-01")),
-        },
-        None => Vec::new(alloc),
-    };
+    let expiry = expiry_of(alloc, until)?;
     let message = Message::Hold(HoldMessage {
         mode: Mode::Add,
         patron: patron.as_bytes(),
@@ -231,19 +258,6 @@ fn place_hold(
     let position = str::from_utf8(reply.field(*b"BR").unwrap_or(b"")).unwrap_or("");
     let pickup = str::from_utf8(reply.field(*b"BS").unwrap_or(b"")).unwrap_or("");
     Ok(Said::done(held_words(alloc, patron, title, position, pickup)?))
-}
-
-/// That a patron holds a title, in words.
-fn held_words(
-    alloc: Global,
-    patron: &str,
-    title: &str,
-    position: &str,
-    pickup: &str,
-) -> Result<String, DoorCommandFault> {
-    Ok(format!(in alloc;
-        "{patron} holds {title}, number {position} in the queue, to be picked up at {pickup}"
-    )?)
 }
 
 /// Ends a hold.
@@ -271,83 +285,4 @@ fn end_hold(
     }
     let why = why(alloc, &reply)?;
     Ok(Said::not_done(format!(in alloc; "the hold of {title} isn't ended: {why}")?))
-}
-
-/// Prints a patron's loans and holds.
-fn tell_account(rt: &HostRuntime, order: &Desk<'_>, patron: &str) -> Result<(), DoorCommandFault> {
-    let key = Key::Name(patron.as_bytes());
-    let alloc = rt.alloc();
-    if order.is_json {
-        return show(
-            rt,
-            &Show {
-                door: order.door,
-                shown: ListOrder {
-                    list: Listing::Patron,
-                    key: Key::Name(patron),
-                    after: None,
-                    is_json: true,
-                },
-            },
-        );
-    }
-    let answer = answer_of(rt, order.door, Listing::Patron, key, 0)?;
-    if answer.status == NOT_FOUND {
-        return Err(undone(alloc, "there is no such patron"));
-    }
-    let rows = rows_of(rt, order.door, answer)?;
-    if rows.rows().is_empty() {
-        println!(rt; "{patron} has nothing")?;
-    }
-    for row in rows.rows() {
-        let words = account_words(alloc, patron, row)?;
-        println!(rt; "{words}")?;
-    }
-    Ok(())
-}
-
-/// A loan or a hold of a patron, in words.
-fn account_words(alloc: Global, patron: &str, row: &Value) -> Result<String, DoorCommandFault> {
-    let copy = text_in(row, "copy");
-    let title = text_in(row, "title");
-    if text_in(row, "row") == "copy" {
-        let due = text_in(row, "due");
-        return Ok(format!(in alloc; "{patron} has {copy} of {title} until {due}")?);
-    }
-    let pickup = text_in(row, "pickup");
-    if !copy.is_empty() {
-        return Ok(format!(in alloc;
-            "{patron} holds {title}, by {copy}, to be picked up at {pickup}"
-        )?);
-    }
-    let position = number_in(row, "position").unwrap_or(0);
-    let position = format!(in alloc; "{position}")?;
-    held_words(alloc, patron, title, position.as_str(), pickup)
-}
-
-/// Sends lines, and prints the replies, a line each.
-///
-/// # Errors
-/// A line has no reply.
-fn send(rt: &HostRuntime, order: &Desk<'_>, lines: &[String]) -> Result<(), DoorCommandFault> {
-    let alloc = rt.alloc();
-    let terminal = terminal_of(alloc, order)?;
-    let mut text = Vec::new(alloc);
-    for line in lines {
-        text.extend_from_slice(line.as_bytes())?;
-        text.push(b'\r')?;
-    }
-    let replies = replies_to(rt, order.door, terminal, text.as_slice())?;
-    let mut count = 0usize;
-    for byte in replies.as_slice() {
-        if *byte == b'\r' {
-            count = count.saturating_add(1);
-        } else {
-            rt.stdout().write_all(&[*byte])?;
-        }
-    }
-    if count < lines.len() {
-        return Err(undone(alloc, "not each line has a reply"));
-    }
-    Ok(())
 }

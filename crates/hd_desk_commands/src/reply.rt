@@ -25,9 +25,10 @@ const LOAN_FIXED: usize = 24;
 /// Those of a reply to a hold message (16).
 const HOLD_FIXED: usize = 22;
 
-/// Where the present is in the reply to a 99 (98), and its bytes.
+/// Where the present begins in the reply to a 99 (98).
 const PRESENT_AT: usize = 14;
 
+/// How many bytes the present has.
 const PRESENT_BYTES: usize = 18;
 
 /// Reads a reply to a checkout, a checkin, a renewal or a hold message.
