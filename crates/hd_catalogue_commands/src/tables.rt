@@ -149,8 +149,8 @@ impl TableReader<'_> {
         }
         for row in rows {
             let read = read_row(self.catalogue, sheet, headings, row);
-            if let Err(column) = read {
-                self.list_value(file, headings, row, column, listing)?;
+            if let Err(column) = &read {
+                self.list_value(file, headings, row, *column, listing)?;
             }
             said.push(read)?;
         }
