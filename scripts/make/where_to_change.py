@@ -35,16 +35,19 @@ PLAYED = {
     "catalogue_faults rows": "catalogue",
     "catalogue_faults": "diagnosis",
     "import_sheets": "import",
+    "first_day": "import_opening",
     "file_faults": "opening patrons zone",
     "carry_rows two_years": "carry",
     "carry_kept": "merge",
     "join_rows": "joining",
-    "serve_crash file_faults": "asked durable turn_row turn_store journal_file",
+    "serve_crash serve_waits": "history durable",
+    "serve_crash file_faults": "ask_parts turn_row turn_store journal_file",
     "serve_rows": "connection hall attend serve",
-    "serve_door": "log json page door ask looks shown server",
-    "look_at_page": "page_html",
+    "serve_door": "log json http door door_client lists list_rows list_pages server",
+    "look_at_page serve_door": "page",
+    "desk_hour": "desk_commands",
     "carry_stops file_faults": "periods folder library_journal",
-    "examples": "command_line setup terminal_output catalogue_commands journal_commands door_commands holddesk",
+    "examples": "command_line library terminal_output catalogue_commands journal_commands door_commands holddesk",
 }
 
 
@@ -53,6 +56,14 @@ def crates_in(cell, uses):
     names = [span.partition(":")[0].removeprefix("hd_") for span in re.findall("`([^`]+)`", cell)]
     full = [name if name in uses else f"hd_{name}" for name in names]
     return list(dict.fromkeys(name for name in full if name in uses))
+
+
+def unknown_in(uses):
+    """The names of PLAYED that are no crate's, and those of scripts that aren't there."""
+    crates = [name for names in PLAYED.values() for name in names.split()]
+    scripts = {name for names in [*PLAYED, REPLAYED] for name in names.split()}
+    return [name for name in crates if name not in uses and f"hd_{name}" not in uses] + \
+        sorted(name for name in scripts if not (TOP / "scripts" / "play" / f"{name}.py").is_file())
 
 
 def plays_of(crate):
@@ -87,8 +98,10 @@ def main():
     parser = argparse.ArgumentParser(description=__doc__, usage=argparse.SUPPRESS,
                                      formatter_class=argparse.RawDescriptionHelpFormatter)
     parser.add_argument("--check", action="store_true", help="look that the columns are so")
-    is_check, text = parser.parse_args().check, PAGE.read_text(encoding="utf-8")
-    written = with_columns(text, uses_of_all())
+    is_check, text, uses = parser.parse_args().check, PAGE.read_text(encoding="utf-8"), uses_of_all()
+    if unknown := unknown_in(uses):
+        sys.exit(f"where_to_change: PLAYED names what isn't there: {' '.join(unknown)}")
+    written = with_columns(text, uses)
     if is_check and written != text:
         sys.exit("where_to_change: docs/architecture.md has other columns: run scripts/make/where_to_change.py")
     if not is_check:

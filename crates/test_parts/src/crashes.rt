@@ -6,6 +6,9 @@
 //! the machine crashes and loses what wasn't synced; the file is opened again, and its turns are taken again.
 //! They have to be the first changing turns of the row, with all that were answered; where the file says that
 //! it was ended, also without its log. Once it was opened for turns it says that, or that it is open.
+//!
+//! Then batches of 1 to 16 rows are committed so: a stop leaves each batch whole or not at all.
+mod batches;
 mod disks;
 mod leaving;
 mod marks;
@@ -13,6 +16,7 @@ mod row;
 mod stopping;
 mod whole;
 
+use crate::crashes::batches::{MOST_ROWS, batch_calls};
 use crate::crashes::row::{Row, rows};
 use crate::crashes::stopping::{WhichDisk, calls, is_read_in_the_old_format};
 use crate::crashes::whole::Whole;
@@ -27,7 +31,20 @@ pub(crate) fn play(rt: &HostRuntime) -> io::Result<()> {
             None => tell(rt, row.name, false)?,
         }
     }
-    Ok(())
+    print_batch_calls(rt, WhichDisk::Log)?;
+    print_batch_calls(rt, WhichDisk::Database)
+}
+
+/// Prints how many calls one of the disks gets while batches are committed, and whether a stop before each left
+/// whole batches.
+fn print_batch_calls(rt: &HostRuntime, disk: WhichDisk) -> io::Result<()> {
+    let of = disk.name();
+    match batch_calls(rt.alloc(), disk) {
+        Some(calls) => println!(rt;
+            "batches of 1 to {MOST_ROWS}: stopped before each of {calls} calls of the {of}: ok"
+        ),
+        None => println!(rt; "batches of 1 to {MOST_ROWS}: stops of the {of}: FAILED"),
+    }
 }
 
 /// Plays a row, beside its turns that are all taken.

@@ -36,7 +36,7 @@ impl WhichDisk {
     }
 
     /// Empty disks of which this one stops after so many calls.
-    fn stopped_after(self, alloc: Global, calls: u64) -> Disks {
+    pub(crate) fn stopped_after(self, alloc: Global, calls: u64) -> Disks {
         match self {
             WhichDisk::Log => empty(alloc, calls, u64::MAX),
             WhichDisk::Database => empty(alloc, u64::MAX, calls),
@@ -67,10 +67,10 @@ impl Reached {
 }
 
 /// The SHA-256 of a catalogue file, as the journal has it.
-const DIGEST: [u8; 32] = [7; 32];
+pub(crate) const DIGEST: [u8; 32] = [7; 32];
 
 /// More calls than a row makes.
-const MOST_CALLS: u64 = 10_000;
+pub(crate) const MOST_CALLS: u64 = 10_000;
 
 /// What puts a file into the format before, whose replies are texts.
 const PUT_BACK: [&str; 2] = [
