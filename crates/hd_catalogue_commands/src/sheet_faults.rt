@@ -88,11 +88,11 @@ impl Known {
 
 /// By what sheets are judged.
 #[derive(Clone, Copy)]
-struct Judge<'r, 's> {
+struct Judge<'a, 'settings, 'b, 'files> {
     alloc: Global,
-    settings: &'r Settings<'s>,
+    settings: &'a Settings<'settings>,
     format: Format,
-    sources: &'r Sources<'s>,
+    sources: &'b Sources<'files>,
 }
 
 /// All faults of sheets. Of each sheet: that it can't be read, or which columns are missing; else of each row
@@ -137,7 +137,7 @@ pub(crate) fn encoding_hint(fault: &Fault<'_>) -> &'static str {
     }
 }
 
-impl Judge<'_, '_> {
+impl Judge<'_, '_, '_, '_> {
     /// Lists the faults of a sheet. Returns the names that its rows are of, if it can be read and no column
     /// is missing.
     ///
@@ -282,9 +282,9 @@ impl Judge<'_, '_> {
     ///
     /// # Errors
     /// Out of memory.
-    fn words_of(
-        &self,
-        place: Place<'_>,
+    fn words_of<'x>(
+        &'x self,
+        place: Place<'x>,
         found: RowFault,
         given: &str,
         known: &Known,
@@ -319,9 +319,9 @@ impl Judge<'_, '_> {
     ///
     /// # Errors
     /// Out of memory.
-    fn words_of_unknown(
-        &self,
-        place: Place<'_>,
+    fn words_of_unknown<'x>(
+        &'x self,
+        place: Place<'x>,
         column: Column,
         value: String,
         known: &Known,

@@ -43,33 +43,73 @@ pub fn do_at_desk(rt: &HostRuntime, order: &Desk<'_>) -> Result<(), DoorCommandF
     said.print(rt, order.is_json)
 }
 
-/// Sees that names can be written into a message.
+/// Sees that the names of a message can be written into it.
 ///
 /// # Errors
 /// One of them is empty, too long, or has a bar or another byte that no name has.
-fn see_names(alloc: Global, names: &[&str]) -> Result<(), DoorCommandFault> {
-    for name in names {
-        let bytes = name.as_bytes();
-        if bytes.is_empty() || bytes.len() > LONGEST_NAME {
-            return Err(undone(alloc, "a name has 1 to 60 bytes"));
+fn see_names(alloc: Global, message: &Message<'_>) -> Result<(), DoorCommandFault> {
+    match *message {
+        Message::Checkout { patron, copy, .. } | Message::Renewal { patron, copy, .. } => {
+            see_name(alloc, patron)?;
+            see_name(alloc, copy)
         }
-        if bytes.iter().any(|byte| *byte == b'|' || *byte < b' ') {
-            return Err(undone(
-                alloc,
-                "a name has no bar, and nothing that can't be printed",
-            ));
+        Message::Checkin { copy, branch, .. } => {
+            see_name(alloc, copy)?;
+            if branch.is_empty() {
+                Ok(())
+            } else {
+                see_name(alloc, branch)
+            }
         }
+        Message::Hold(hold) => see_names_of_hold(alloc, &hold),
+    }
+}
+
+/// Sees that the names of a hold message can be written into it.
+///
+/// # Errors
+/// Those of `see_names`.
+fn see_names_of_hold(alloc: Global, hold: &HoldMessage<'_>) -> Result<(), DoorCommandFault> {
+    see_name(alloc, hold.patron)?;
+    see_name(alloc, hold.title)?;
+    if let Some(copy) = hold.copy {
+        see_name(alloc, copy)?;
+    }
+    if let Some(pickup) = hold.pickup {
+        see_name(alloc, pickup)?;
     }
     Ok(())
 }
 
-/// The reply to a message of a desk, read.
+/// Sees that a name can be written into a message.
+///
+/// # Errors
+/// It is empty, too long, or has a bar or another byte that no name has.
+fn see_name(alloc: Global, name: &[u8]) -> Result<(), DoorCommandFault> {
+    if name.is_empty() || name.len() > LONGEST_NAME {
+        return Err(undone(alloc, "a name has 1 to 60 bytes"));
+    }
+    if name.iter().any(|byte| *byte == b'|' || *byte < b' ') {
+        return Err(undone(
+            alloc,
+            "a name has no bar, and nothing that can't be printed",
+        ));
+    }
+    Ok(())
+}
+
+/// The reply to a message that is sent as the terminal of an order.
+///
+/// # Errors
+/// A name can't be written, no terminal is named, or the server can't be asked.
 fn ask(
     rt: &HostRuntime,
     order: &Desk<'_>,
     message: &Message<'_>,
 ) -> Result<Vec<u8>, DoorCommandFault> {
-    let terminal = terminal_of(rt.alloc(), order)?;
+    let alloc = rt.alloc();
+    let terminal = terminal_of(alloc, order)?;
+    see_names(alloc, message)?;
     reply_to(rt, order.door, terminal, message)
 }
 
@@ -90,14 +130,13 @@ fn why(alloc: Global, reply: &ReadReply<'_>) -> Result<String, DoorCommandFault>
 }
 
 /// Lends a copy to a patron.
-fn lend(
+fn lend<'a>(
     rt: &HostRuntime,
     order: &Desk<'_>,
-    patron: &str,
-    copy: &str,
+    patron: &'a str,
+    copy: &'a str,
 ) -> Result<Said, DoorCommandFault> {
     let alloc = rt.alloc();
-    see_names(alloc, &[patron, copy])?;
     let message = Message::Checkout {
         patron: patron.as_bytes(),
         copy: copy.as_bytes(),
@@ -108,14 +147,13 @@ fn lend(
 }
 
 /// Renews a loan.
-fn renew(
+fn renew<'a>(
     rt: &HostRuntime,
     order: &Desk<'_>,
-    patron: &str,
-    copy: &str,
+    patron: &'a str,
+    copy: &'a str,
 ) -> Result<Said, DoorCommandFault> {
     let alloc = rt.alloc();
-    see_names(alloc, &[patron, copy])?;
     let message = Message::Renewal {
         patron: patron.as_bytes(),
         copy: copy.as_bytes(),
@@ -143,14 +181,13 @@ fn loan_said(
 }
 
 /// Takes a copy back, and says where it goes.
-fn take_back(
+fn take_back<'a>(
     rt: &HostRuntime,
     order: &Desk<'_>,
-    copy: &str,
-    branch: Option<&str>,
+    copy: &'a str,
+    branch: Option<&'a str>,
 ) -> Result<Said, DoorCommandFault> {
     let alloc = rt.alloc();
-    see_names(alloc, &[copy, branch.unwrap_or("-")])?;
     let message = Message::Checkin {
         copy: copy.as_bytes(),
         branch: branch.unwrap_or("").as_bytes(),
@@ -225,20 +262,16 @@ fn expiry_of(alloc: Global, until: Option<&str>) -> Result<Vec<u8>, DoorCommandF
 }
 
 /// Places a hold.
-fn place_hold(
+fn place_hold<'a>(
     rt: &HostRuntime,
     order: &Desk<'_>,
-    patron: &str,
-    title: &str,
-    pickup: Option<&str>,
-    copy: Option<&str>,
-    until: Option<&str>,
+    patron: &'a str,
+    title: &'a str,
+    pickup: Option<&'a str>,
+    copy: Option<&'a str>,
+    until: Option<&'a str>,
 ) -> Result<Said, DoorCommandFault> {
     let alloc = rt.alloc();
-    see_names(
-        alloc,
-        &[patron, title, pickup.unwrap_or("-"), copy.unwrap_or("-")],
-    )?;
     let expiry = expiry_of(alloc, until)?;
     let message = Message::Hold(HoldMessage {
         mode: Mode::Add,
@@ -261,14 +294,13 @@ fn place_hold(
 }
 
 /// Ends a hold.
-fn end_hold(
+fn end_hold<'a>(
     rt: &HostRuntime,
     order: &Desk<'_>,
-    patron: &str,
-    title: &str,
+    patron: &'a str,
+    title: &'a str,
 ) -> Result<Said, DoorCommandFault> {
     let alloc = rt.alloc();
-    see_names(alloc, &[patron, title])?;
     let message = Message::Hold(HoldMessage {
         mode: Mode::Delete,
         patron: patron.as_bytes(),
