@@ -343,10 +343,11 @@ impl Judge<'_, '_, '_, '_> {
 
     /// The path of the sheet that has what a column names.
     fn path_of(&self, column: Column) -> &str {
-        match column {
-            Column::Title => self.sources.titles.path,
-            _ => self.sources.branches.path,
-        }
+        let sheet = match column {
+            Column::Title => Sheet::Titles,
+            _ => Sheet::Branches,
+        };
+        self.sources.file_of(sheet).path
     }
 }
 
