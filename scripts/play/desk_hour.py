@@ -132,6 +132,10 @@ def compare_newer(program, path):
     compare("no terminal", said("lend", "p1", "b2"), ("say as which terminal, by --terminal NAME", 1))
     compare("a bar", said("--terminal", "t1", "lend", "p1|ABb1", "b2"),
             ("a name has no bar, and nothing that can't be printed", 1))
+    compare("a loan", said("--terminal", "t1", "lend", "p3", "b2")[1], 0)
+    compare("the same again", said("--terminal", "t1", "lend", "p3", "b2"),
+            ("b2 isn't lent to p3: the copy is on loan already", 1))
+    compare("a long line", said("--terminal", "t1", "send", "9900802.00", "x" * 1_025)[1], 1)
 
 
 def play_hour(program, folder):

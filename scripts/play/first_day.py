@@ -3,16 +3,16 @@
 
     python3 scripts/play/first_day.py [PROGRAM] [--loans N]
 
-PROGRAM is crates/holddesk/out/holddesk where it isn't given. Eight branches, forty terminals, and so many loans (1,500),
-with as many copies again, half as many patrons and titles, and a tenth as many holds, are written as a spreadsheet of
-the continent saves them: with semicolons, CR LF, a mark of UTF-8 and umlauts. Thirty faults are put into the sheets.
+PROGRAM is crates/holddesk/out/holddesk where it isn't given. Eight branches, forty terminals, and N loans (1,500), with
+as many copies again, half as many patrons and titles, and a tenth as many holds, are written as a spreadsheet of the
+continent saves them: with semicolons, CR LF, a mark of UTF-8 and umlauts. Thirty faults are put into the sheets.
 `holddesk import` has to report all those of the catalogue's sheets at once, by file and line, and with the name that was
 meant; then, where these are mended, all those of loans, holds and hold shelves; then those that only the desk sees, as
 a copy that is on loan twice. Nothing may be written meanwhile. When all are mended the catalogue, the opening and the
 patrons' file are written, `check` takes them, a journal is begun with them and served, a terminal lends a copy that is
-there and is refused one that is on loan, and a renewal and a hold are as the old system had them. Last, faults that
-belong to a file as a whole: a spreadsheet's rounded bar code, Windows-1252, a heading of another spelling. Needs nothing
-but Python 3. Status 0: all is as it should be.
+there and is refused one that is on loan, and a renewal and a hold are as the old system had them. Besides there are
+faults that belong to a file as a whole, as Windows-1252 and a heading of another spelling; where a sheet can do without
+that column, the heading is reported as not used. Needs nothing but Python 3. Status 0: all is as it should be.
 """
 
 import os
@@ -194,6 +194,14 @@ def whole_files(sheets, library):
         raise Trouble(f"Windows-1252 as UTF-8: import ends with {status} and says {told!r}")
 
 
+def unused_heading(sheets, library):
+    """Looks that a heading of another spelling is reported, of a column that a sheet can do without."""
+    sheets.write(headings={"holds": ["patron", "title", "copy", "pickup", "placed on", "expiry"]})
+    status, printed, told = library.imported()
+    if status or told or f"\n{sheets.path('holds')}: not used: expiry\n" not in printed:
+        raise Trouble(f"a heading that isn't used: import ends with {status}, prints {printed!r} and says {told!r}")
+
+
 def begun_and_served(program, sheets, library):
     """Begins the library with what was written, serves it, and has the first loan."""
     loans, holds, kept = (len(sheets.rows[sheet]) for sheet in OLD)
@@ -223,7 +231,7 @@ def begun_and_served(program, sheets, library):
             wanted(f"17{STAMP}AOlib|AB{sheets.rows['shelf'][0][0]}|", "18")
             said = wanted(f"63002{STAMP}  Y       AOlib|AA{reader}|AD0001|", "64")
             if "|AEJörg Müller 1|" not in said or "|CQY|" not in said:
-                raise Trouble(f"a kiosk is told {said!r}")
+                raise Trouble(f"a kiosk gets {said!r}")
         status, _, told = server.end()
         if status:
             raise Trouble(f"serve ends with {status} and says {told!r}")
@@ -241,9 +249,10 @@ def play(program, loans):
         library.refuse("the old system's sheets", sheets.wanted(SECOND_FAULTS))
         mended_last(sheets, library)
         whole_files(sheets, library)
+        unused_heading(sheets, library)
         sheets.write(first="sep=;\r\n")
         status, printed, told = library.imported()
-        if status or told or "loans: " not in printed:
+        if status or told or "loans: " not in printed or "not used" in printed:
             raise Trouble(f"import ends with {status}, prints {printed!r} and says {told!r}")
         return begun_and_served(program, sheets, library)
 
@@ -253,7 +262,7 @@ def main():
     parser.add_argument("--loans", type=int, default=1_500, metavar="N", help="how many loans the old system has (1,500)")
     asked = parser.parse_args()
     loans, holds, kept = reported("first_day", play, asked.program, asked.loans)
-    print(f"first_day: {len(FIRST_FAULTS) + len(SECOND_FAULTS) + 6} faults told and mended; begun with {loans} loans, "
+    print(f"first_day: {len(FIRST_FAULTS) + len(SECOND_FAULTS) + 6} faults reported and mended; begun with {loans} loans, "
           f"{holds} holds and {kept} kept copies; lent, renewed and asked")
 
 

@@ -15,7 +15,7 @@ use hd_terminal_output::Away;
 use std::alloc::{AllocError, Global};
 use std::io::{IsTerminal, Write};
 
-/// From how many bytes on a catalogue file takes so long that a terminal is told of it.
+/// From how many bytes on a catalogue file takes so long that a message says so at a terminal.
 const LONG_FILE: usize = 10_000_000;
 
 /// Tells what a library's files say, or why one is refused.
@@ -56,8 +56,8 @@ fn check_files(
     Ok(())
 }
 
-/// The library whose journal begins as the opening file at a path says. Of one that is refused the first fault is
-/// told, and then what is wrong with each of its lines.
+/// The library whose journal begins as the opening file at a path says. Of one that is refused the first
+/// fault is reported, and then what is wrong with each of its lines.
 ///
 /// # Errors
 /// The file can't be read, or is refused.
@@ -85,8 +85,8 @@ fn opened(
     Err(CatalogueCommandFault::Sheets(listing.text(alloc)?))
 }
 
-/// What the patrons' file at a path tells of the patrons of a catalogue. Of one that is refused the first fault is
-/// told, and then what is wrong with each of its lines, without any of its texts.
+/// What the patrons' file at a path tells of the patrons of a catalogue. Of one that is refused the first
+/// fault is reported, and then what is wrong with each of its lines, without any of its texts.
 ///
 /// # Errors
 /// It can't be read, or is refused.
@@ -108,8 +108,8 @@ fn told_of(
     }
 }
 
-/// The version of a catalogue file, and its library. A terminal is told before a long file is read, and
-/// standard error what is wrong with a file, or odd about one that is accepted.
+/// The version of a catalogue file, and its library. At a terminal a message comes before a long file is
+/// read. Standard error gets what is wrong with a file, or what is odd about one that is accepted.
 fn library_of(rt: &HostRuntime, path: &str) -> Result<(u8, Library), CatalogueCommandFault> {
     let file = read_file(rt, "catalogue", path)?;
     if file.len() > LONG_FILE && rt.stderr().is_terminal() {
@@ -121,7 +121,7 @@ fn library_of(rt: &HostRuntime, path: &str) -> Result<(u8, Library), CatalogueCo
             Ok((version_of(file.as_slice()), library))
         }
         Err(fault) => {
-            // The fault itself is told last, also where there was no room for more.
+            // The fault itself is reported last, also where there was no memory for more.
             let _told = tell_faults(rt, path, file.as_slice());
             Err(CatalogueCommandFault::from(fault))
         }
@@ -132,7 +132,7 @@ fn library_of(rt: &HostRuntime, path: &str) -> Result<(u8, Library), CatalogueCo
 /// loans, copies kept or on their way and holds the desk has that the journal begins with.
 ///
 /// # Errors
-/// The desk refuses a row, of which the names are told; the output can't be written; out of memory.
+/// The desk refuses a row, and the fault has its names; the output can't be written; out of memory.
 fn check_opening(
     rt: &HostRuntime,
     library: Library,

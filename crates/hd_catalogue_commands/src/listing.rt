@@ -1,4 +1,4 @@
-//! Faults as a list: the first so many of them, a line each, and how many more there are.
+//! Faults as a list: the first of them, a line each, and how many more there are.
 
 use std::alloc::{AllocError, Global};
 
@@ -14,7 +14,7 @@ pub(crate) struct Listing {
 }
 
 impl Listing {
-    /// No faults yet, of which so many at most will be listed.
+    /// No faults yet, of which at most this number will be listed.
     pub(crate) fn new(alloc: Global, most: usize) -> Listing {
         Listing {
             lines: Vec::new(alloc),

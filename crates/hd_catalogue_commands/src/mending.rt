@@ -1,4 +1,4 @@
-//! What staff are told of a catalogue file on standard error, so that they can mend it.
+//! What is said of a catalogue file on standard error, so that staff can mend it.
 
 use crate::fault::CatalogueCommandFault;
 use hd_catalogue::Catalogue;
@@ -78,7 +78,7 @@ pub fn tell_option<R: Eprint>(rt: &R, words: &[String]) -> io::Result<()> {
         && command.as_str() == "check"
         && !file.as_str().starts_with('-')
     {
-        eprintln!(rt; "\n  tip: a catalogue file is told as '--catalogue {file}'")?;
+        eprintln!(rt; "\n  tip: name a catalogue file as '--catalogue {file}'")?;
     }
     Ok(())
 }

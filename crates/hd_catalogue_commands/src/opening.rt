@@ -2,7 +2,8 @@
 
 use crate::fault::CatalogueCommandFault;
 use crate::listing::{Listing, MOST_LISTED};
-use crate::opening_sheets::{OpeningRows, OpeningSheets, OpeningSources};
+use crate::opening_sheets::{OldSources, OpeningRows, OpeningSheets};
+use crate::refused_rows::words_of_refused;
 use hd_catalogue::OpeningRow;
 use hd_desk::RowFault;
 use hd_import::Format;
@@ -17,6 +18,8 @@ pub(crate) struct Opened {
     pub(crate) loans: usize,
     pub(crate) holds: usize,
     pub(crate) kept: usize,
+    /// That headings of the sheets aren't used, a line for each sheet that has some.
+    pub(crate) unused: Vec<String>,
 }
 
 /// Makes the opening for the catalogue file with these bytes, and reads it back.
@@ -27,78 +30,122 @@ pub(crate) fn make_opening(
     rt: &HostRuntime,
     catalogue: &[u8],
     format: Format,
-    sources: OpeningSources<'_>,
+    sources: OldSources<'_>,
 ) -> Result<Opened, CatalogueCommandFault> {
     let alloc = rt.alloc();
     let library = Library::of_catalogue(rt, catalogue)?;
     let mut listing = Listing::new(alloc, MOST_LISTED);
     let sheets = OpeningSheets::read(alloc, &library.catalogue, format, sources, &mut listing)?;
-    let found = sheets.rows(alloc)?;
-    let Some(OpeningRows { rows, last }) = found else {
-        return Err(CatalogueCommandFault::Sheets(listing.text(alloc)?));
-    };
-    if !listing.is_empty() {
-        return Err(CatalogueCommandFault::Sheets(listing.text(alloc)?));
-    }
+    let OpeningRows { rows, last } = rows_of(alloc, &sheets, &listing)?;
     let Ok(last) = u32::try_from(last) else {
         return Err(CatalogueCommandFault::Memory);
     };
-    list_refused(
-        rt,
-        catalogue,
-        &sheets,
-        &library,
-        rows.as_slice(),
-        last,
-        &mut listing,
-    )?;
-    if !listing.is_empty() {
-        return Err(CatalogueCommandFault::Sheets(listing.text(alloc)?));
-    }
+    let rows = see_accepted(rt, catalogue, &sheets, &library, rows, last)?;
     let library = library.beginning_with(rows, last)?;
-    let (opening, digest) = (library.catalogue.opening(), library.digest);
-    let text = hd_opening::write(alloc, &library.catalogue, opening, last, &digest)?;
-    let mut made = counted(alloc, opening);
-    Library::of_catalogue(rt, catalogue)?
-        .opened_by(rt, text.as_slice())?
-        .journal(rt)?;
-    made.text = text;
+    let mut made = opened_of(rt, &library, last)?;
+    made.unused = sheets.unused(alloc)?;
+    see_opened(rt, catalogue, made.text.as_slice())?;
     Ok(made)
 }
 
-/// Lists the rows that the desk refuses, each after those before it that it takes.
+/// The rows that sheets make of which nothing is listed.
 ///
 /// # Errors
-/// Out of memory, or another fault than that of a row.
-fn list_refused(
+/// Something is listed; out of memory.
+fn rows_of(
+    alloc: Global,
+    sheets: &OpeningSheets<'_>,
+    listing: &Listing,
+) -> Result<OpeningRows, CatalogueCommandFault> {
+    match sheets.rows(alloc)? {
+        Some(rows) if listing.is_empty() => Ok(rows),
+        _ => Err(CatalogueCommandFault::Sheets(listing.text(alloc)?)),
+    }
+}
+
+/// Returns rows if the desk accepts each of them.
+///
+/// # Errors
+/// The desk refuses some: these are listed, each after those before it that it takes. Out of memory.
+fn see_accepted(
     rt: &HostRuntime,
     catalogue: &[u8],
     sheets: &OpeningSheets<'_>,
     library: &Library,
-    rows: &[OpeningRow],
+    rows: Vec<OpeningRow>,
     last: u32,
-    listing: &mut Listing,
-) -> Result<(), CatalogueCommandFault> {
+) -> Result<Vec<OpeningRow>, CatalogueCommandFault> {
     let alloc = rt.alloc();
-    let mut taken = Vec::from_slice(alloc, rows)?;
+    let mut listing = Listing::new(alloc, MOST_LISTED);
+    let mut taken = rows;
     for _ in 0..MOST_LISTED {
-        let tried = Vec::from_slice(alloc, taken.as_slice())?;
-        let begun = Library::of_catalogue(rt, catalogue)?.beginning_with(tried, last)?;
-        let (line, why) = match begun.journal(rt) {
-            Ok(_) => return Ok(()),
-            Err(SetupFault::DoubleRow { line }) => (line, RowFault::Twice),
-            Err(SetupFault::RowWithoutHold { line }) => (line, RowFault::NoHold),
-            Err(fault) => return Err(CatalogueCommandFault::from(fault)),
+        let Some((index, why)) = first_refused(rt, catalogue, taken.as_slice(), last)? else {
+            break;
         };
-        let index = line.saturating_sub(2);
         if index >= taken.len() {
-            return Ok(());
+            break;
         }
         let row = taken[index];
         let before = taken.as_slice().split_at(index).0;
-        listing.add(sheets.words_of(alloc, &library.catalogue, before, &row, why)?)?;
+        listing.add(words_of_refused(alloc, &library.catalogue, sheets, before, &row, why)?)?;
         let _refused = taken.remove(index);
     }
+    if listing.is_empty() {
+        Ok(taken)
+    } else {
+        Err(CatalogueCommandFault::Sheets(listing.text(alloc)?))
+    }
+}
+
+/// The first of these rows that the desk refuses, from 0, and why, if it refuses one.
+///
+/// # Errors
+/// Out of memory, or another fault than that of a row.
+fn first_refused(
+    rt: &HostRuntime,
+    catalogue: &[u8],
+    rows: &[OpeningRow],
+    last: u32,
+) -> Result<Option<(usize, RowFault)>, CatalogueCommandFault> {
+    let tried = Vec::from_slice(rt.alloc(), rows)?;
+    let begun = Library::of_catalogue(rt, catalogue)?.beginning_with(tried, last)?;
+    let (line, why) = match begun.journal(rt) {
+        Ok(_) => return Ok(None),
+        Err(SetupFault::DoubleRow { line }) => (line, RowFault::Twice),
+        Err(SetupFault::RowWithoutHold { line }) => (line, RowFault::NoHold),
+        Err(fault) => return Err(CatalogueCommandFault::from(fault)),
+    };
+    Ok(Some((line.saturating_sub(2), why)))
+}
+
+/// The opening that a library's journal begins with, as a file.
+///
+/// # Errors
+/// Out of memory.
+fn opened_of(
+    rt: &HostRuntime,
+    library: &Library,
+    last: u32,
+) -> Result<Opened, CatalogueCommandFault> {
+    let alloc = rt.alloc();
+    let opening = library.catalogue.opening();
+    let text = hd_opening::write(alloc, &library.catalogue, opening, last, &library.digest)?;
+    let mut made = counted(alloc, opening);
+    made.text = text;
+    Ok(made)
+}
+
+/// Sees that a journal can begin with an opening file.
+///
+/// # Errors
+/// It can't; out of memory.
+fn see_opened(
+    rt: &HostRuntime,
+    catalogue: &[u8],
+    opening: &[u8],
+) -> Result<(), CatalogueCommandFault> {
+    let library = Library::of_catalogue(rt, catalogue)?.opened_by(rt, opening)?;
+    let _journal = library.journal(rt)?;
     Ok(())
 }
 
@@ -109,6 +156,7 @@ fn counted(alloc: Global, rows: &[OpeningRow]) -> Opened {
         loans: 0,
         holds: 0,
         kept: 0,
+        unused: Vec::new(alloc),
     };
     for row in rows {
         match row {

@@ -2,14 +2,14 @@
 
 use crate::hints::near_hint;
 use crate::listing::Listing;
-use crate::opening_sheets::{Names, names_of};
+use crate::names::{Names, names_of};
 use hd_catalogue::{Catalogue, FirstLine, first_line};
 use hd_diagnosis::Defined;
 use hd_opening::OpeningCause;
 use std::alloc::{AllocError, Global};
 
-/// Adds to a list the faults of the lines of an opening file at a path, each by itself, with the name that isn't known and one that
-/// may have been meant. Which rows are there twice isn't seen here.
+/// Adds to a list the faults of the lines of an opening file at a path, each by itself, with the name that
+/// isn't known and one that may have been meant. Which rows are there twice isn't seen here.
 ///
 /// # Errors
 /// Out of memory.
@@ -74,7 +74,8 @@ fn cause_of(
     }
 }
 
-/// The words of a line that names what the catalogue lacks: the first such name, and one that may have been meant.
+/// The words of a line that names what the catalogue lacks: the first of these names, and one that may have
+/// been meant.
 ///
 /// # Errors
 /// Out of memory.
@@ -95,7 +96,8 @@ fn words_of_unknown(alloc: Global, names: &Names, line: &[u8]) -> Result<String,
     Ok(String::new(alloc))
 }
 
-/// What a value of a line names, by the letter of the line and the number of the value, and the names of that kind.
+/// What a value of a line names, by the letter of the line and the number of the value, and the names of that
+/// kind.
 fn column_of<'a>(
     names: &'a Names,
     kind: &str,

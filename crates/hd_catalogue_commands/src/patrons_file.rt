@@ -18,7 +18,8 @@ pub(crate) fn is_of_patrons_file(heading: &str) -> bool {
         .any(|other| heading.eq_ignore_ascii_case(other))
 }
 
-/// The text of the patrons' file that a sheet of patrons makes, which is read back. None of its texts is in a fault.
+/// The text of the patrons' file that a sheet of patrons makes, which is read back. None of its texts is in a
+/// fault.
 ///
 /// # Errors
 /// A text is none that the file may have; out of memory.
@@ -48,8 +49,8 @@ pub(crate) fn patrons_text(
     };
     let (path, cause) = (file.path, fault.cause);
     Err(CatalogueCommandFault::Sheets(format!(in alloc;
-        "{path}:{line}: no line of a patrons' file: {cause}; password and name have up to 60 printable bytes without \
-         a bar, language has three digits"
+        "{path}:{line}: the patrons' file would be refused: {cause}; a password and a name have at most 60 \
+         printable bytes, none of them a bar, and a language has three digits"
     )?))
 }
 
@@ -68,8 +69,8 @@ fn put_line(
     text.push('\n')
 }
 
-/// Adds to a list the faults of the lines of a patrons' file at a path, each by itself. Which lines are there twice
-/// isn't seen here.
+/// Adds to a list the faults of the lines of a patrons' file at a path, each by itself. Which lines are there
+/// twice isn't seen here.
 ///
 /// # Errors
 /// Out of memory.

@@ -1,8 +1,8 @@
 -- The messages that a desk sends, as a terminal writes them.
-use Rattle.std.specs.Prelude.{ℕ, Bool, false, List, [], Option, Some, None, codes}
+use Rattle.std.specs.Prelude.{ℕ, Bool, false, List, [], ◌∷◌, ◌++◌, Option, Some, None, codes}
 use Rattle.std.specs.Option.{option_copied}
-use Rattle.hd_message.specs.Grammar.{body_of}
-use Rattle.hd_message.specs.WrittenHolds.{HoldValues, hold_fields, hold_fixed}
+use Rattle.hd_message.specs.Grammar.{Written, body_of, cancel, optional}
+use Rattle.hd_message.specs.WrittenHolds.{HoldValues, hold_fields, hold_fixed, wanted_text}
 use Rattle.hd_message.specs.WrittenMessages.{CheckinValues, CheckoutValues, RenewValues}
 use Rattle.hd_message.specs.WrittenMessages.{checkin_fields, checkin_fixed, checkout_fields, checkout_fixed}
 use Rattle.hd_message.specs.WrittenMessages.{renew_fields, renew_fixed}
@@ -60,10 +60,6 @@ abbrev pub wanted_of : Option (List ℕ) → Wanted
 wanted_of None = AnyCopy
 wanted_of (Some copy) = OneCopy
 
-abbrev pub wanted_byte : Option (List ℕ) → List ℕ
-wanted_byte None = codes "2"
-wanted_byte (Some copy) = codes "3"
-
 -- a hold message now: of this mode, patron and title, of one copy or any, and perhaps with a pickup and a last day
 unfoldable pub hold_text : List ℕ → Mode → List ℕ → List ℕ → Option (List ℕ) → Option (List ℕ) → Option (List ℕ)
     → Bool → List ℕ
@@ -85,6 +81,21 @@ abbrev pub hold_message_text : List ℕ → HoldMessage → List ℕ
 hold_message_text now h =
     hold_text now h.mode h.patron.now h.title.now (option_copied h.copy) (option_copied h.pickup)
     (option_copied h.expiry) h.cancels
+
+-- its fields that wish for something: until when, where, and which copies
+abbrev pub wish_fields : HoldMessage → List Written
+wish_fields h =
+    optional (codes "BW") (option_copied h.expiry)
+    ++ (optional (codes "BS") (option_copied h.pickup)
+    ++ optional (codes "BY") (wanted_text (Some (wanted_of (option_copied h.copy)))))
+
+-- its fields that say whose hold it is and of what, and that it cancels
+abbrev pub name_fields : HoldMessage → List Written
+name_fields h =
+    record { code = codes "AO"; value = [] }
+    ∷ record { code = codes "AA"; value = h.patron.now }
+    ∷ (optional (codes "AB") (option_copied h.copy)
+    ++ (optional (codes "AJ") (Some h.title.now) ++ cancel h.cancels))
 
 -- the body of a message
 abbrev pub message_text : List ℕ → Message → List ℕ

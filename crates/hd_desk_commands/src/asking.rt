@@ -81,7 +81,7 @@ pub(crate) fn terminal_of<'a>(
 /// The reply to a message that is sent as a terminal, of the server's present.
 ///
 /// # Errors
-/// As `replies_to`; the server doesn't tell its present, or doesn't reply.
+/// As `replies_to`; the server doesn't say its present, or doesn't reply.
 pub(crate) fn reply_to(
     rt: &HostRuntime,
     door: &str,
@@ -91,7 +91,7 @@ pub(crate) fn reply_to(
     let alloc = rt.alloc();
     let status = replies_to(rt, door, terminal, STATUS)?;
     let Some(now) = present_of(first_reply(status.as_slice())) else {
-        return Err(undone(alloc, "the server doesn't tell its day"));
+        return Err(undone(alloc, "the server doesn't say what day it is"));
     };
     let mut line = body_of(alloc, now, message)?;
     line.push(b'\r')?;

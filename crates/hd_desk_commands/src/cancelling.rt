@@ -39,23 +39,26 @@ fn about_of<'a>(row: &'a Value) -> About<'a> {
     }
 }
 
-/// Cancels a command, as the terminal that sent it. Nothing is sent where a later command depends on it, or where
-/// the message would cancel a newer one.
+/// Cancels a command, as the terminal that sent it. Nothing is sent where a later command depends on it, or
+/// where the message would cancel a newer one.
+///
+/// # Errors
+/// The server can't be asked, or doesn't say what the command was; out of memory.
 pub(crate) fn cancel(rt: &HostRuntime, door: &str, number: u64) -> Result<Said, DoorCommandFault> {
     let alloc = rt.alloc();
     let Some(rows) = command_rows(rt, door, number)? else {
         return Ok(Said::not_done(format!(in alloc;
-            "nothing to cancel: there is no command {number}, or it is cancelled, or of before the last carry"
+            "nothing to cancel: no command {number} was made since the last carry, or it is cancelled already"
         )?));
     };
     let Some(row) = rows.rows().first() else {
-        return Err(undone(alloc, "the server doesn't tell the command"));
+        return Err(undone(alloc, "the server doesn't say what the command was"));
     };
     if let Some(dependent) = number_in(row, "dependent") {
         return Ok(Said::not_done(dependent_words(rt, door, number, dependent)?));
     }
     let Some(kind) = kind_named(text_in(row, "asked").as_bytes()) else {
-        return Err(undone(alloc, "the server doesn't tell what the command was"));
+        return Err(undone(alloc, "the server doesn't say what the command was"));
     };
     if let Some(newer) = newer_one(rt, door, number, kind, row)? {
         return Ok(Said::not_done(format!(in alloc;
@@ -87,9 +90,24 @@ fn send_cancel(
         return Err(undone(alloc, "the server gave no reply that can be read"));
     };
     let told = str::from_utf8(reply.field(*b"AF").unwrap_or(b"")).unwrap_or("");
+    cancel_said(rt, door, number, told)
+}
+
+/// What AF says of the message that was to cancel a command.
+fn cancel_said(
+    rt: &HostRuntime,
+    door: &str,
+    number: u64,
+    told: &str,
+) -> Result<Said, DoorCommandFault> {
+    let alloc = rt.alloc();
     if let Some(cancelled) = told.strip_prefix("CANCELLED ") {
-        let words = format!(in alloc; "cancelled {cancelled}")?;
-        return Ok(Said::done(words));
+        if cancelled.parse::<u64>().unwrap_or(0) == number {
+            return Ok(Said::done(format!(in alloc; "cancelled {number}")?));
+        }
+        return Ok(Said::not_done(format!(in alloc;
+            "{cancelled} is cancelled, and not {number}: it was made meanwhile"
+        )?));
     }
     if let Some(dependent) = told.strip_prefix("DEPENDS ") {
         let dependent = dependent.parse::<u64>().unwrap_or(0);
@@ -99,8 +117,11 @@ fn send_cancel(
     Ok(Said::not_done(format!(in alloc; "{number} isn't cancelled: {why}")?))
 }
 
-/// A patron whom the message may name: that of the command, or else of what it changed, or else the first whom any
-/// turn names. Nobody compares it, but it has to be one.
+/// A patron whom the message may name: that of the command, or else of what it changed, or else the first
+/// whom a turn names. The server doesn't compare it, but it has to be a patron's name.
+///
+/// # Errors
+/// The server can't be asked, or no turn names a patron; out of memory.
 fn patron_for(
     rt: &HostRuntime,
     door: &str,
@@ -180,8 +201,11 @@ fn since_words(alloc: Global, row: &Value) -> Result<String, DoorCommandFault> {
     })
 }
 
-/// The newest surviving command behind this one that the message which cancels this one would cancel in its
+/// The newest surviving command after this one that the message which cancels this one would cancel in its
 /// place, if there is one. Turns are looked at from the last back to the one of this command.
+///
+/// # Errors
+/// The server can't be asked.
 fn newer_one(
     rt: &HostRuntime,
     door: &str,

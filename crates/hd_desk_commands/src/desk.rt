@@ -1,20 +1,20 @@
 //! What is done at a desk.
 
-use crate::asking::{
-    NOT_FOUND, answer_of, number_in, replies_to, reply_to, rows_of, terminal_of, text_in, undone,
-};
+use crate::account::tell_account;
+use crate::asking::{answer_of, number_in, reply_to, rows_of, terminal_of, text_in, undone};
 use crate::cancelling::cancel;
 use crate::message::{HoldMessage, Message};
 use crate::reply::{ReadReply, read_reply};
 use crate::said::Said;
-use crate::words::{day_in_words, last_day, why_in_words};
-use hd_command_line::{Deed, Desk, ListOrder, Show};
-use hd_door_commands::{DoorCommandFault, show};
+use crate::sending::send;
+use crate::words::{day_in_words, held_words, last_day, why_in_words};
+use hd_command_line::{Deed, Desk};
+use hd_door_client::Rows;
+use hd_door_commands::DoorCommandFault;
 use hd_lists::{Key, Listing};
 use hd_message::Mode;
 use serde_json::Value;
-use std::alloc::Global;
-use std::io::Write;
+use std::alloc::{AllocError, Global};
 
 /// The most bytes of a name.
 const LONGEST_NAME: usize = 60;
@@ -43,33 +43,73 @@ pub fn do_at_desk(rt: &HostRuntime, order: &Desk<'_>) -> Result<(), DoorCommandF
     said.print(rt, order.is_json)
 }
 
-/// Sees that names can be written into a message.
+/// Sees that the names of a message can be written into it.
 ///
 /// # Errors
 /// One of them is empty, too long, or has a bar or another byte that no name has.
-fn see_names(alloc: Global, names: &[&str]) -> Result<(), DoorCommandFault> {
-    for name in names {
-        let bytes = name.as_bytes();
-        if bytes.is_empty() || bytes.len() > LONGEST_NAME {
-            return Err(undone(alloc, "a name has 1 to 60 bytes"));
+fn see_names(alloc: Global, message: &Message<'_>) -> Result<(), DoorCommandFault> {
+    match *message {
+        Message::Checkout { patron, copy, .. } | Message::Renewal { patron, copy, .. } => {
+            see_name(alloc, patron)?;
+            see_name(alloc, copy)
         }
-        if bytes.iter().any(|byte| *byte == b'|' || *byte < b' ') {
-            return Err(undone(
-                alloc,
-                "a name has no bar, and nothing that can't be printed",
-            ));
+        Message::Checkin { copy, branch, .. } => {
+            see_name(alloc, copy)?;
+            if branch.is_empty() {
+                Ok(())
+            } else {
+                see_name(alloc, branch)
+            }
         }
+        Message::Hold(hold) => see_names_of_hold(alloc, &hold),
+    }
+}
+
+/// Sees that the names of a hold message can be written into it.
+///
+/// # Errors
+/// Those of `see_names`.
+fn see_names_of_hold(alloc: Global, hold: &HoldMessage<'_>) -> Result<(), DoorCommandFault> {
+    see_name(alloc, hold.patron)?;
+    see_name(alloc, hold.title)?;
+    if let Some(copy) = hold.copy {
+        see_name(alloc, copy)?;
+    }
+    if let Some(pickup) = hold.pickup {
+        see_name(alloc, pickup)?;
     }
     Ok(())
 }
 
-/// The reply to a message of a desk, read.
+/// Sees that a name can be written into a message.
+///
+/// # Errors
+/// It is empty, too long, or has a bar or another byte that no name has.
+fn see_name(alloc: Global, name: &[u8]) -> Result<(), DoorCommandFault> {
+    if name.is_empty() || name.len() > LONGEST_NAME {
+        return Err(undone(alloc, "a name has 1 to 60 bytes"));
+    }
+    if name.iter().any(|byte| *byte == b'|' || *byte < b' ') {
+        return Err(undone(
+            alloc,
+            "a name has no bar, and nothing that can't be printed",
+        ));
+    }
+    Ok(())
+}
+
+/// The reply to a message that is sent as the terminal of an order.
+///
+/// # Errors
+/// A name can't be written, no terminal is named, or the server can't be asked.
 fn ask(
     rt: &HostRuntime,
     order: &Desk<'_>,
     message: &Message<'_>,
 ) -> Result<Vec<u8>, DoorCommandFault> {
-    let terminal = terminal_of(rt.alloc(), order)?;
+    let alloc = rt.alloc();
+    let terminal = terminal_of(alloc, order)?;
+    see_names(alloc, message)?;
     reply_to(rt, order.door, terminal, message)
 }
 
@@ -90,14 +130,13 @@ fn why(alloc: Global, reply: &ReadReply<'_>) -> Result<String, DoorCommandFault>
 }
 
 /// Lends a copy to a patron.
-fn lend(
+fn lend<'a>(
     rt: &HostRuntime,
     order: &Desk<'_>,
-    patron: &str,
-    copy: &str,
+    patron: &'a str,
+    copy: &'a str,
 ) -> Result<Said, DoorCommandFault> {
     let alloc = rt.alloc();
-    see_names(alloc, &[patron, copy])?;
     let message = Message::Checkout {
         patron: patron.as_bytes(),
         copy: copy.as_bytes(),
@@ -108,14 +147,13 @@ fn lend(
 }
 
 /// Renews a loan.
-fn renew(
+fn renew<'a>(
     rt: &HostRuntime,
     order: &Desk<'_>,
-    patron: &str,
-    copy: &str,
+    patron: &'a str,
+    copy: &'a str,
 ) -> Result<Said, DoorCommandFault> {
     let alloc = rt.alloc();
-    see_names(alloc, &[patron, copy])?;
     let message = Message::Renewal {
         patron: patron.as_bytes(),
         copy: copy.as_bytes(),
@@ -143,14 +181,13 @@ fn loan_said(
 }
 
 /// Takes a copy back, and says where it goes.
-fn take_back(
+fn take_back<'a>(
     rt: &HostRuntime,
     order: &Desk<'_>,
-    copy: &str,
-    branch: Option<&str>,
+    copy: &'a str,
+    branch: Option<&'a str>,
 ) -> Result<Said, DoorCommandFault> {
     let alloc = rt.alloc();
-    see_names(alloc, &[copy, branch.unwrap_or("-")])?;
     let message = Message::Checkin {
         copy: copy.as_bytes(),
         branch: branch.unwrap_or("").as_bytes(),
@@ -162,57 +199,80 @@ fn take_back(
         let why = why(alloc, &reply)?;
         return Ok(Said::not_done(format!(in alloc; "{copy} isn't back: {why}")?));
     }
-    let answer = answer_of(rt, order.door, Listing::Copy, Key::Name(copy.as_bytes()), 0)?;
-    let rows = rows_of(rt, order.door, answer)?;
-    match rows.rows().first() {
-        Some(row) => Ok(Said::done(whereabouts(alloc, copy, row)?)),
-        None => Ok(Said::done(format!(in alloc; "{copy} is back")?)),
+    Ok(Said::done(back_words(rt, order.door, copy)?))
+}
+
+/// That a copy is back, and where it goes, in words. It is back also where the server doesn't say more.
+///
+/// # Errors
+/// Out of memory.
+fn back_words(rt: &HostRuntime, door: &str, copy: &str) -> Result<String, AllocError> {
+    let alloc = rt.alloc();
+    if let Ok(rows) = rows_of_copy(rt, door, copy) {
+        if let Some(row) = rows.rows().first() {
+            return whereabouts(alloc, copy, row);
+        }
     }
+    format!(in alloc; "{copy} is back")
+}
+
+/// The rows that say where a copy is.
+///
+/// # Errors
+/// The server can't be asked.
+fn rows_of_copy(rt: &HostRuntime, door: &str, copy: &str) -> Result<Rows, DoorCommandFault> {
+    let answer = answer_of(rt, door, Listing::Copy, Key::Name(copy.as_bytes()), 0)?;
+    rows_of(rt, door, answer)
 }
 
 /// Where a copy is that is back, in words.
-fn whereabouts(alloc: Global, copy: &str, row: &Value) -> Result<String, DoorCommandFault> {
+///
+/// # Errors
+/// Out of memory.
+fn whereabouts(alloc: Global, copy: &str, row: &Value) -> Result<String, AllocError> {
     let branch = text_in(row, "branch");
     let patron = text_in(row, "patron");
     let to = text_in(row, "to");
-    Ok(match (text_in(row, "state"), patron.is_empty()) {
-        ("open shelf", _) => format!(in alloc; "{copy} is back, on the open shelf of {branch}")?,
+    match (text_in(row, "state"), patron.is_empty()) {
+        ("open shelf", _) => format!(in alloc; "{copy} is back, on the open shelf of {branch}"),
         ("hold shelf", _) => {
             let place = number_in(row, "place").unwrap_or(0);
             format!(in alloc;
                 "{copy} is back, for {patron}: place {place} on the hold shelf of {branch}"
-            )?
+            )
         }
-        ("in transit", true) => format!(in alloc; "{copy} is back: send it to {to}")?,
-        ("in transit", false) => format!(in alloc;
-            "{copy} is back: send it to {to}, for {patron}"
-        )?,
-        _ => format!(in alloc; "{copy} is back")?,
-    })
+        ("in transit", true) => format!(in alloc; "{copy} is back: send it to {to}"),
+        ("in transit", false) => format!(in alloc; "{copy} is back: send it to {to}, for {patron}"),
+        _ => format!(in alloc; "{copy} is back"),
+    }
+}
+
+/// The last day of a hold, as a message has it; no bytes where there is none.
+///
+/// # Errors
+/// It isn't of the form 2026-03-01; out of memory.
+fn expiry_of(alloc: Global, until: Option<&str>) -> Result<Vec<u8>, DoorCommandFault> {
+    let Some(day) = until else {
+        return Ok(Vec::new(alloc));
+    };
+    match last_day(alloc, day)? {
+        Some(date) => Ok(date),
+        None => Err(undone(alloc, "a day is written as 2026-03-01")),
+    }
 }
 
 /// Places a hold.
-fn place_hold(
+fn place_hold<'a>(
     rt: &HostRuntime,
     order: &Desk<'_>,
-    patron: &str,
-    title: &str,
-    pickup: Option<&str>,
-    copy: Option<&str>,
-    until: Option<&str>,
+    patron: &'a str,
+    title: &'a str,
+    pickup: Option<&'a str>,
+    copy: Option<&'a str>,
+    until: Option<&'a str>,
 ) -> Result<Said, DoorCommandFault> {
     let alloc = rt.alloc();
-    see_names(
-        alloc,
-        &[patron, title, pickup.unwrap_or("-"), copy.unwrap_or("-")],
-    )?;
-    let expiry = match until {
-        Some(day) => match last_day(alloc, day)? {
-            Some(date) => date,
-            None => return Err(undone(alloc, "a day is written as 2026-03-01")),
-        },
-        None => Vec::new(alloc),
-    };
+    let expiry = expiry_of(alloc, until)?;
     let message = Message::Hold(HoldMessage {
         mode: Mode::Add,
         patron: patron.as_bytes(),
@@ -233,28 +293,14 @@ fn place_hold(
     Ok(Said::done(held_words(alloc, patron, title, position, pickup)?))
 }
 
-/// That a patron holds a title, in words.
-fn held_words(
-    alloc: Global,
-    patron: &str,
-    title: &str,
-    position: &str,
-    pickup: &str,
-) -> Result<String, DoorCommandFault> {
-    Ok(format!(in alloc;
-        "{patron} holds {title}, number {position} in the queue, to be picked up at {pickup}"
-    )?)
-}
-
 /// Ends a hold.
-fn end_hold(
+fn end_hold<'a>(
     rt: &HostRuntime,
     order: &Desk<'_>,
-    patron: &str,
-    title: &str,
+    patron: &'a str,
+    title: &'a str,
 ) -> Result<Said, DoorCommandFault> {
     let alloc = rt.alloc();
-    see_names(alloc, &[patron, title])?;
     let message = Message::Hold(HoldMessage {
         mode: Mode::Delete,
         patron: patron.as_bytes(),
@@ -271,83 +317,4 @@ fn end_hold(
     }
     let why = why(alloc, &reply)?;
     Ok(Said::not_done(format!(in alloc; "the hold of {title} isn't ended: {why}")?))
-}
-
-/// Prints a patron's loans and holds.
-fn tell_account(rt: &HostRuntime, order: &Desk<'_>, patron: &str) -> Result<(), DoorCommandFault> {
-    let key = Key::Name(patron.as_bytes());
-    let alloc = rt.alloc();
-    if order.is_json {
-        return show(
-            rt,
-            &Show {
-                door: order.door,
-                shown: ListOrder {
-                    list: Listing::Patron,
-                    key: Key::Name(patron),
-                    after: None,
-                    is_json: true,
-                },
-            },
-        );
-    }
-    let answer = answer_of(rt, order.door, Listing::Patron, key, 0)?;
-    if answer.status == NOT_FOUND {
-        return Err(undone(alloc, "there is no such patron"));
-    }
-    let rows = rows_of(rt, order.door, answer)?;
-    if rows.rows().is_empty() {
-        println!(rt; "{patron} has nothing")?;
-    }
-    for row in rows.rows() {
-        let words = account_words(alloc, patron, row)?;
-        println!(rt; "{words}")?;
-    }
-    Ok(())
-}
-
-/// A loan or a hold of a patron, in words.
-fn account_words(alloc: Global, patron: &str, row: &Value) -> Result<String, DoorCommandFault> {
-    let copy = text_in(row, "copy");
-    let title = text_in(row, "title");
-    if text_in(row, "row") == "copy" {
-        let due = text_in(row, "due");
-        return Ok(format!(in alloc; "{patron} has {copy} of {title} until {due}")?);
-    }
-    let pickup = text_in(row, "pickup");
-    if !copy.is_empty() {
-        return Ok(format!(in alloc;
-            "{patron} holds {title}, by {copy}, to be picked up at {pickup}"
-        )?);
-    }
-    let position = number_in(row, "position").unwrap_or(0);
-    let position = format!(in alloc; "{position}")?;
-    held_words(alloc, patron, title, position.as_str(), pickup)
-}
-
-/// Sends lines, and prints the replies, a line each.
-///
-/// # Errors
-/// A line has no reply.
-fn send(rt: &HostRuntime, order: &Desk<'_>, lines: &[String]) -> Result<(), DoorCommandFault> {
-    let alloc = rt.alloc();
-    let terminal = terminal_of(alloc, order)?;
-    let mut text = Vec::new(alloc);
-    for line in lines {
-        text.extend_from_slice(line.as_bytes())?;
-        text.push(b'\r')?;
-    }
-    let replies = replies_to(rt, order.door, terminal, text.as_slice())?;
-    let mut count = 0usize;
-    for byte in replies.as_slice() {
-        if *byte == b'\r' {
-            count = count.saturating_add(1);
-        } else {
-            rt.stdout().write_all(&[*byte])?;
-        }
-    }
-    if count < lines.len() {
-        return Err(undone(alloc, "not each line has a reply"));
-    }
-    Ok(())
 }

@@ -1,12 +1,12 @@
 //! The messages that a desk sends, by the layouts of SIP2.
-ghost use Rattle.std.specs.Prelude.{◌≡◌, ◌++◌, IfOk, OnOk};
+ghost use Rattle.std.specs.Prelude.{◌≡◌, ◌++◌, IfOk, OnOk, codes};
 ghost use Rattle.std.specs.Option.{option_copied};
 ghost use Rattle.hd_message.specs.Fields.{field_text};
 ghost use Rattle.hd_message.specs.Grammar.{cancel, fields_text, optional};
-ghost use Rattle.hd_message.specs.WrittenHolds.{mode_byte};
+ghost use Rattle.hd_message.specs.WrittenHolds.{mode_byte, wanted_text};
 ghost use Rattle.hd_desk_commands.specs.Messages.{checkin_text, checkout_text, hold_message_text};
-ghost use Rattle.hd_desk_commands.specs.Messages.{message_text};
-ghost use Rattle.hd_desk_commands.specs.Messages.{renewal_text, wanted_byte};
+ghost use Rattle.hd_desk_commands.specs.Messages.{message_text, name_fields, renewal_text, wanted_of};
+ghost use Rattle.hd_desk_commands.specs.Messages.{wish_fields};
 
 use hd_message::Mode;
 use std::alloc::{AllocError, Global};
@@ -142,31 +142,47 @@ fn renewal(
 }
 
 /// A hold message.
-#[tactic(auto, using(crate::proofs::Texts::fields_append), unfolding(crate::specs::Messages::hold_text))]
 fn hold_message(alloc: Global, now: &[u8], hold: &HoldMessage<'_>) -> Result<Vec<u8>, AllocError>
     ensures { IfOk result (λ body. body.items ≡ hold_message_text now.now hold.now) }
 {
     let mut body = Vec::from_slice(alloc, b"15")?;
     body.push(mode_byte(hold.mode))?;
     body.extend_from_slice(now)?;
-    put_optional(&mut body, b"BW", hold.expiry)?;
-    put_optional(&mut body, b"BS", hold.pickup)?;
-    put(&mut body, b"BY", wanted(hold.copy))?;
-    put(&mut body, b"AO", b"")?;
-    put(&mut body, b"AA", hold.patron)?;
-    put_optional(&mut body, b"AB", hold.copy)?;
-    put(&mut body, b"AJ", hold.title)?;
-    put_cancel(&mut body, hold.cancels)?;
+    put_wishes(&mut body, hold)?;
+    put_names(&mut body, hold)?;
     Ok(body)
 }
 
-/// BY: the one copy that is wanted, or any.
-fn wanted(copy: Option<&[u8]>) -> &'static [u8]
-    ensures { result.now ≡ wanted_byte (option_copied copy.entry) }
+/// Appends what a hold message wishes for: until when, where, and which copies.
+#[tactic(auto, using(crate::proofs::Texts::fields_append))]
+fn put_wishes(body: &mut Vec<u8>, hold: &HoldMessage<'_>) -> Result<(), AllocError>
+    ensures { OnOk result (body.new.items ≡ body.old.items ++ fields_text (wish_fields hold.now)) }
+{
+    put_optional(body, b"BW", hold.expiry)?;
+    put_optional(body, b"BS", hold.pickup)?;
+    put_wanted(body, hold.copy)
+}
+
+/// Appends whose hold it is and of what, and BI where the message cancels.
+#[tactic(auto, using(crate::proofs::Texts::fields_append))]
+fn put_names(body: &mut Vec<u8>, hold: &HoldMessage<'_>) -> Result<(), AllocError>
+    ensures { OnOk result (body.new.items ≡ body.old.items ++ fields_text (name_fields hold.now)) }
+{
+    put(body, b"AO", b"")?;
+    put(body, b"AA", hold.patron)?;
+    put_optional(body, b"AB", hold.copy)?;
+    put(body, b"AJ", hold.title)?;
+    put_cancel(body, hold.cancels)
+}
+
+/// Appends BY: the one copy is wanted, or any.
+fn put_wanted(body: &mut Vec<u8>, copy: Option<&[u8]>) -> Result<(), AllocError>
+    ensures { OnOk result (body.new.items ≡ body.old.items
+        ++ fields_text (optional (codes "BY") (wanted_text (Some (wanted_of (option_copied copy.entry)))))) }
 {
     match copy {
-        Some(_) => b"3",
-        None => b"2",
+        Some(_) => put(body, b"BY", b"3"),
+        None => put(body, b"BY", b"2"),
     }
 }
 

@@ -1,4 +1,5 @@
 //! Replies of SIP2, as far as a desk reads them.
+ghost use Rattle.std.specs.Prelude.{◌≡◌, IfSome, length};
 
 use hd_field::first;
 
@@ -25,9 +26,10 @@ const LOAN_FIXED: usize = 24;
 /// Those of a reply to a hold message (16).
 const HOLD_FIXED: usize = 22;
 
-/// Where the present is in the reply to a 99 (98), and its bytes.
+/// Where the present begins in the reply to a 99 (98).
 const PRESENT_AT: usize = 14;
 
+/// How many bytes the present has.
 const PRESENT_BYTES: usize = 18;
 
 /// Reads a reply to a checkout, a checkin, a renewal or a hold message.
@@ -48,7 +50,9 @@ pub(crate) fn read_reply(reply: &[u8]) -> Option<ReadReply<'_>> {
 }
 
 /// The present of a server, as its reply to a 99 has it.
-pub(crate) fn present_of(reply: &[u8]) -> Option<&[u8]> {
+pub(crate) fn present_of(reply: &[u8]) -> Option<&[u8]>
+    ensures { IfSome result (λ present. length present.now ≡ 18) }
+{
     if !reply.starts_with(b"98") || reply.len() < PRESENT_AT + PRESENT_BYTES {
         return None;
     }

@@ -103,7 +103,8 @@ fn hold_undone<'a>(mode: Mode, about: &About<'a>) -> Message<'a>
 /// terminal.
 pub(crate) fn is_undone_alike(kind: Kind, about: &About<'_>, other: Kind, of: &About<'_>) -> bool
     ensures another { kind ≢ other → result ≡ false }
-    ensures alike { kind ≡ other → result ≡ (if is_of_copy kind then bytes_eq about.now.copy.now of.now.copy.now
+    ensures alike { kind ≡ other → result ≡ (if is_of_copy kind
+        then bytes_eq about.now.copy.now of.now.copy.now
         else (bytes_eq about.now.patron.now of.now.patron.now
         && bytes_eq about.now.title.now of.now.title.now)) }
 {

@@ -2,33 +2,127 @@
 
 use std::alloc::{AllocError, Global};
 
+/// A text of AF, and what it says in a librarian's words.
+#[derive(Clone, Copy)]
+struct Refusal {
+    text: &'static str,
+    words: &'static str,
+}
+
+/// The texts of AF that have words.
+static REFUSALS: [Refusal; 20] = [
+    Refusal {
+        text: "NOT LOGGED IN",
+        words: "the terminal isn't logged in",
+    },
+    Refusal {
+        text: "MESSAGE UNREADABLE",
+        words: "the server can't read the message",
+    },
+    Refusal {
+        text: "DATE UNREADABLE",
+        words: "the server can't read the date",
+    },
+    Refusal {
+        text: "UNKNOWN PATRON",
+        words: "there is no such patron",
+    },
+    Refusal {
+        text: "UNKNOWN ITEM",
+        words: "there is no such copy",
+    },
+    Refusal {
+        text: "UNKNOWN TITLE",
+        words: "there is no such title, or the copy is of another one",
+    },
+    Refusal {
+        text: "UNKNOWN BRANCH",
+        words: "there is no such branch",
+    },
+    Refusal {
+        text: "ON LOAN",
+        words: "the copy is on loan already",
+    },
+    Refusal {
+        text: "KEPT FOR ANOTHER",
+        words: "the copy is kept for another patron",
+    },
+    Refusal {
+        text: "IN TRANSIT",
+        words: "the copy is on its way to another branch",
+    },
+    Refusal {
+        text: "LOAN LIMIT",
+        words: "the patron has as many loans as are allowed",
+    },
+    Refusal {
+        text: "NOT ON LOAN TO PATRON",
+        words: "the copy isn't on loan to this patron",
+    },
+    Refusal {
+        text: "NOT RENEWABLE",
+        words: "the loan can't be renewed any more, or another patron waits for the copy",
+    },
+    Refusal {
+        text: "DUE DATE OUT OF RANGE",
+        words: "the due day would be after 9999-12-31",
+    },
+    Refusal {
+        text: "HOLD EXISTS",
+        words: "the patron holds the title already",
+    },
+    Refusal {
+        text: "NO SUCH HOLD",
+        words: "the patron doesn't hold the title",
+    },
+    Refusal {
+        text: "HOLD HAS ITS COPY",
+        words: "a copy is kept for the hold already",
+    },
+    Refusal {
+        text: "EXPIRY PASSED",
+        words: "the last day has passed",
+    },
+    Refusal {
+        text: "JOURNAL FULL",
+        words: "the journal is full: carry the library over",
+    },
+    Refusal {
+        text: "NOTHING TO CANCEL",
+        words: "there is nothing to cancel",
+    },
+];
+
 /// Why something isn't done, by the text of AF: in words where there are some, and else as it came.
+///
+/// # Errors
+/// Out of memory.
 pub(crate) fn why_in_words(alloc: Global, refusal: &[u8]) -> Result<String, AllocError> {
-    let words = match refusal {
-        b"NOT LOGGED IN" => "the terminal isn't logged in",
-        b"MESSAGE UNREADABLE" => "the server can't read the message",
-        b"DATE UNREADABLE" => "the server can't read the date",
-        b"UNKNOWN PATRON" => "there is no such patron",
-        b"UNKNOWN ITEM" => "there is no such copy",
-        b"UNKNOWN TITLE" => "there is no such title, or the copy is of another one",
-        b"UNKNOWN BRANCH" => "there is no such branch",
-        b"ON LOAN" => "the copy is on loan to somebody else",
-        b"KEPT FOR ANOTHER" => "the copy is kept for another patron",
-        b"IN TRANSIT" => "the copy is on its way to another branch",
-        b"LOAN LIMIT" => "the patron has as many loans as may be",
-        b"NOT ON LOAN TO PATRON" => "the copy isn't on loan to this patron",
-        b"NOT RENEWABLE" =>
-            "the loan can't be renewed any more, or another patron waits for the copy",
-        b"DUE DATE OUT OF RANGE" => "the due day is later than there are days",
-        b"HOLD EXISTS" => "the patron holds the title already",
-        b"NO SUCH HOLD" => "the patron doesn't hold the title",
-        b"HOLD HAS ITS COPY" => "a copy is kept for the hold already",
-        b"EXPIRY PASSED" => "the last day is over",
-        b"JOURNAL FULL" => "the journal is full: carry the library over",
-        b"NOTHING TO CANCEL" => "there is nothing to cancel",
-        other => str::from_utf8(other).unwrap_or("the server refuses it"),
-    };
-    String::from_str(alloc, words)
+    for known in &REFUSALS {
+        if known.text.as_bytes() == refusal {
+            return String::from_str(alloc, known.words);
+        }
+    }
+    String::from_str(
+        alloc,
+        str::from_utf8(refusal).unwrap_or("the server refuses it"),
+    )
+}
+
+/// That a patron holds a title, in words.
+///
+/// # Errors
+/// Out of memory.
+pub(crate) fn held_words(
+    alloc: Global,
+    patron: &str,
+    title: &str,
+    position: &str,
+    pickup: &str,
+) -> Result<String, AllocError> {
+    format!(in alloc;
+        "{patron} holds {title}, number {position} in the queue, to be picked up at {pickup}"
+    )
 }
 
 /// The day of a due date or a last day, as 2026-03-01.
