@@ -6,6 +6,7 @@ use crate::tables::Table;
 use hd_catalogue::{Catalogue, CopyNo, OpeningRow};
 use hd_desk::RowFault;
 use hd_import::Format;
+use hd_terminal_output::{copy_name, patron_name};
 use std::alloc::{AllocError, Global};
 
 /// The words of a row of the opening that the desk refuses after those before it, by the row of a sheet.
@@ -24,26 +25,26 @@ pub(crate) fn words_of_refused(
     match row {
         OpeningRow::Loan { copy, .. } => {
             let place = place_of(alloc, format, &sheets.loans, row)?;
-            let name = text_of(catalogue.copy_name(*copy));
+            let name = text_of(copy_name(catalogue, *copy));
             format!(in alloc; "{place}: copy: '{name}' is on loan in an earlier row")
         }
         OpeningRow::Hold { hold, .. } => {
             let place = place_of(alloc, format, &sheets.holds, row)?;
-            let name = text_of(catalogue.patron_name(hold.patron));
+            let name = text_of(patron_name(catalogue, hold.patron));
             format!(in alloc;
                 "{place}: patron: '{name}' has a hold of this title in an earlier row"
             )
         }
         OpeningRow::HoldShelf { copy, patron, .. } => {
             let place = place_of(alloc, format, &sheets.shelf, row)?;
-            let patron = text_of(catalogue.patron_name(*patron));
+            let patron = text_of(patron_name(catalogue, *patron));
             if why == RowFault::NoHold {
                 let holds = sheets.holds.file.path;
                 return format!(in alloc;
                     "{place}: patron: '{patron}' has no hold of this copy's title in {holds}"
                 );
             }
-            let name = text_of(catalogue.copy_name(*copy));
+            let name = text_of(copy_name(catalogue, *copy));
             let said = words_of_twice(alloc, name, patron, why_twice(before, row))?;
             format!(in alloc; "{place}: {said}")
         }

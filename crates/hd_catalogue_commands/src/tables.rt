@@ -148,11 +148,12 @@ impl TableReader<'_> {
             return Ok(said);
         }
         for row in rows {
-            let read = read_row(self.catalogue, sheet, headings, row);
-            if let Err(column) = &read {
-                self.list_value(file, headings, row, *column, listing)?;
+            said.push(read_row(self.catalogue, sheet, headings, row))?;
+        }
+        for index in 0..said.len().min(rows.len()) {
+            if let Err(column) = &said[index] {
+                self.list_value(file, headings, &rows[index], *column, listing)?;
             }
-            said.push(read)?;
         }
         Ok(said)
     }
