@@ -257,7 +257,6 @@ impl<H: House, A: Allocator, K: Turns + Drop> HallState<H, A, K> {
             mut book,
             tickets,
             of: _of,
-            asks: _asks,
         } = self;
         let mut rest = tickets.into_rest();
         match differing(&keeper, &mut book, &mut rest, seats.as_mut_slice()) {
