@@ -1,6 +1,6 @@
 -- One turn more of a journal in memory.
 use Rattle.std.proofs.Common.{◌≡◌, refl, ap, sym, subst, ◌∙◌, arith, ℕ, ◌+◌, ◌-◌, ◌<◌, ◌^◌, Bool, true, false}
-use Rattle.std.proofs.Common.{List, [], ◌∷◌, ◌++◌, length, length-append, Option, None}
+use Rattle.std.proofs.Common.{if◌then◌else◌, List, [], ◌∷◌, ◌++◌, length, length-append, Option, None}
 use mathlib.Core.List.{IsPrefix}
 use Rattle.hd_rules.specs.Journal.{Turn, state_after}
 use Rattle.hd_rules.specs.Messages.{IsKnownMessage, SeatMessage, turn_with_reply}
@@ -10,7 +10,7 @@ use Rattle.hd_journal.specs.Changing.{is_changing}
 use Rattle.hd_journal.specs.Openings.{Opening, IsLegalSince}
 use Rattle.hd_journal.specs.declared.fault.WriteFault.{WriteFault}
 use Rattle.hd_journal.specs.declared.turn.Turn.{Turn as Made}
-use Rattle.hd_durable.specs.Commits.{IsInMemory, MayFollow, MemoryValue, changing_with}
+use Rattle.hd_durable.specs.Commits.{IsInMemory, MayFollow, MemoryValue, changing_one, changing_with}
 use Rattle.hd_durable.proofs.Committing.{one_follows}
 use Rattle.hd_durable.proofs.Prefixes.{prefix_self}
 use Rattle.hd_durable.proofs.Remembering.{memory_more, memory_same}
@@ -61,6 +61,18 @@ module _ (o : Opening) (old new : Book) (ask table : SeatMessage) (made : Made) 
       ∙ (ap (λ (ts : List Turn). is_changing (state_after (facts_of old.contents) ts) turn.message)
       (sym (memory.whole is_open))
       ∙ (ap (λ (t : Turn). is_changing (state old) t.message) is_next ∙ found))
+
+  -- it waits to be committed, where it is changing
+  pub taken_waits : (b : Bool) (before : List Turn) (asked : SeatMessage) (waited waits : List Turn)
+      → is_changing (state old) ask.message ≡ b → m.turns ≡ before → ask ≡ asked
+      → waits ≡ waited ++ (if b then turn ∷ [] else [])
+      → waits ≡ waited ++ changing_one o before (turn_with_reply asked made.reply)
+  taken_waits b before asked waited waits found same named more =
+      more
+      ∙ (ap (λ (x : Bool). waited ++ (if x then turn ∷ [] else [])) (sym (changing_is b found))
+      ∙ (ap (λ (ts : List Turn). waited ++ changing_one o ts turn) same
+      ∙ ap (λ (t : Turn). waited ++ changing_one o before t)
+      (is ∙ ap (λ (x : SeatMessage). turn_with_reply x made.reply) (copy ∙ named))))
 
   -- one that changes nothing
   pub taken_same : (shut : Option WriteFault) → is_changing (state old) ask.message ≡ false

@@ -1,12 +1,12 @@
 -- Turns that are committed beside a hall's lock, many at a time, and what a stop leaves of them.
-use Rattle.std.specs.Prelude.{◌≡◌, ◌⊎◌, ℕ, ◌+◌, ◌<◌, ◌≤◌, ◌^◌, List, ◌++◌, length, take, All}
-use Rattle.std.specs.Prelude.{Option, None, Some}
+use Rattle.std.specs.Prelude.{◌≡◌, ◌⊎◌, ℕ, ◌+◌, ◌<◌, ◌≤◌, ◌^◌, List, [], ◌∷◌, ◌++◌, length, take, All}
+use Rattle.std.specs.Prelude.{if◌then◌else◌, Option, None, Some}
 use mathlib.Core.List.{IsPrefix}
-use Rattle.hd_rules.specs.Journal.{Turn, IsLegal}
+use Rattle.hd_rules.specs.Journal.{Turn, IsLegal, state_after}
 use Rattle.hd_rules.specs.Messages.{IsKnownMessage}
 use Rattle.hd_catalogue.specs.Contents.{Contents, facts_of}
 use Rattle.hd_journal.specs.Books.{IsLegalBook}
-use Rattle.hd_journal.specs.Changing.{changing}
+use Rattle.hd_journal.specs.Changing.{is_changing, changing}
 use Rattle.hd_journal.specs.Openings.{Opening, IsLegalSince}
 use Rattle.hd_journal.specs.declared.fault.TurnFault.{TurnFault}
 use Rattle.hd_journal.specs.declared.fault.TurnFault.TheVariants as fault
@@ -59,6 +59,12 @@ pub record PendingValue : Type 0 where
   pub from : List Turn
   pub upto : List Turn
 
+-- the same turns wait as before
+pub record WaitAsBefore (old new : PendingValue) : Type 0 where
+  pub turns : new.turns ≡ old.turns
+  pub from : new.from ≡ old.from
+  pub upto : new.upto ≡ old.upto
+
 -- These turns may be committed behind those of a history: with them it is this one, which is legal, and they
 -- name things of its catalogue.
 pub record MayFollow (o : Opening) (from turns upto : List Turn) : Type 0 where
@@ -73,6 +79,11 @@ pub record MemoryValue : Type 0 where
   pub turns : List Turn
   pub changed : List Turn
   pub shut : Option WriteFault
+
+-- of one turn more, behind these, what is to be committed: the turn, where it is changing
+abbrev pub changing_one : Opening → List Turn → Turn → List Turn
+changing_one o turns turn =
+    if is_changing (state_after (facts_of o.contents) (o.begun ++ turns)) turn.message then turn ∷ [] else []
 
 -- The journal has gone on by just these turns, which are legal. Where it is shut it may have more, which nobody
 -- is answered.

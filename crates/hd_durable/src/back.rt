@@ -1,6 +1,6 @@
 //! What stands beside a hall's lock: the turns that wait to be committed, and the table.
 
-ghost use Rattle.std.specs.Prelude.{◌≡◌, [], IfErr, IfOk, None, OnErr, OnOk};
+ghost use Rattle.std.specs.Prelude.{◌≡◌, [], IfErr, IfOk, None, OnErr, OnOk, Some};
 ghost use mathlib.Core.List.{IsPrefix};
 ghost use Rattle.hd_catalogue.specs.Contents.{facts_of};
 ghost use Rattle.hd_rules.specs.Messages.{IsKnownMessage};
@@ -121,7 +121,7 @@ impl<J: History, T: TurnTable + Drop> Back<J, T> {
                 Err(Next::Shut(why)) => return Err(why),
                 Err(Next::Commit(filed)) => {
                     let mut filed = filed;
-                    let committed = self.commit(rt, last, &mut filed);
+                    let committed = self.commit(rt, last, mine, &mut filed);
                     self.done.lock(rt).put_back(filed);
                     self.put_back.notify_all();
                     committed?;
@@ -142,18 +142,23 @@ impl<J: History, T: TurnTable + Drop> Back<J, T> {
         done.next(mine)
     }
 
-    /// Commits all that wait by now, with no lock held. Where the last commit had several turns it first lets
-    /// those who were answered then take their next ones.
+    /// Commits all that wait by now, with no lock held; its caller's turns are among those that are committed
+    /// then. Where the last commit had several turns it first lets those who were answered then take their next
+    /// ones.
     ///
     /// # Errors
-    /// Why they can't be written. The table is shut from then on.
+    /// Why they can't be written; `Refused` where its caller's turns neither wait nor were committed. The table
+    /// is shut from then on.
     fn commit<R: Wait + Clock>(
         &self,
         rt: &R,
         last: &LastCommit,
+        mine: &Front<J>,
         filed: &mut Filed<J, T>,
     ) -> Result<(), WriteFault>
-        ensures { IsPrefix filed.old.committed filed.new.committed }
+        ensures more { IsPrefix filed.old.committed filed.new.committed }
+        ensures mine { OnOk result (IsPrefix mine.now filed.new.committed) }
+        ensures shut { IfErr result (λ why. filed.new.shut ≡ Some why) }
     {
         if let Some(why) = filed.shut() {
             return Err(why);
@@ -172,6 +177,10 @@ impl<J: History, T: TurnTable + Drop> Back<J, T> {
         let micros = micros_since(rt, begin);
         filed.note(turns.len(), micros);
         last.note(rt, micros);
+        if !filed.committed().covers(mine) {
+            filed.shut_for(WriteFault::Refused);
+            return Err(WriteFault::Refused);
+        }
         Ok(())
     }
 

@@ -1,6 +1,6 @@
 //! What is committed, and the table while nobody commits.
 
-ghost use Rattle.std.specs.Prelude.{◌≡◌, Some, IfOk, OnErr};
+ghost use Rattle.std.specs.Prelude.{◌≡◌, ◌⊎◌, false, None, Some, IfOk, IsSome, IsTrue, OnErr};
 ghost use mathlib.Core.List.{IsPrefix};
 
 use crate::filed::Filed;
@@ -39,7 +39,10 @@ impl<J: History, T: TurnTable + Drop> Done<J, T> {
     }
 
     /// Whether these turns aren't committed, and somebody commits just now.
-    pub(crate) fn is_under_way(&self, mine: &Front<J>) -> bool {
+    pub(crate) fn is_under_way(&self, mine: &Front<J>) -> bool
+        ensures yes { IsTrue result → (self.now.table ≡ None) × IsPrefix self.now.kept mine.now }
+        ensures no { result ≡ false → IsSome self.now.table ⊎ IsPrefix mine.now self.now.kept }
+    {
         self.table.is_none() && !self.kept.front().covers(mine)
     }
 

@@ -9,7 +9,8 @@ ghost use Rattle.hd_journal.specs.Books.{turn_numbered};
 ghost use Rattle.hd_journal.specs.Keepers.{IsAdded};
 ghost use Rattle.hd_journal.specs.Openings.{IsLegalSince};
 ghost use Rattle.hd_journal.specs.Shown.{turn_shown};
-ghost use Rattle.hd_durable.specs.Commits.{AreAnswered, HasChanging, IsMemoryFault};
+ghost use Rattle.hd_durable.specs.Commits.{AreAnswered, HasChanging, IsMemoryFault, WaitAsBefore};
+ghost use Rattle.hd_durable.specs.Commits.{changing_one};
 
 use crate::asks::AskCopies;
 use crate::pending::Pending;
@@ -84,10 +85,12 @@ impl<J: History> InMemory<J> {
         }
     }
 
-    /// Makes one turn of what is asked. A changing turn is added to those that wait to be committed.
+    /// Makes one turn of what is asked. A changing turn waits to be committed, behind those that wait already
+    /// (`waits`); at any other turn the same wait as before. With those that wait the history is that up to the
+    /// last changing turn, which is what a seat waits for (`upto`).
     ///
     /// # Errors
-    /// `Memory`, and it is as it was; `Unwritten` where it is shut.
+    /// `Memory`, and it is as it was; `Unwritten` where it is shut. The same wait as before.
     pub(crate) fn take(
         &mut self,
         book: &Book<J>,
@@ -96,9 +99,14 @@ impl<J: History> InMemory<J> {
     ) -> Result<Turn, TurnFault>
         requires { IsKnownMessage (facts_of J.opening.contents) asks.message }
         ensures turn { IfOk result (IsAdded self.old.turns self.new.turns asks) }
+        ensures waits { IfOk result (λ made. pending.new.turns
+            ≡ pending.old.turns ++ changing_one J.opening self.old.turns (turn_with_reply asks made.reply)) }
+        ensures upto { OnOk result
+            ((pending.new.from ≡ pending.old.from) × (pending.new.upto ≡ self.new.changed)) }
         ensures legal { IsLegalSince J.opening self.new.turns }
         ensures why { IfErr result (IsMemoryFault self.old self.new) }
         ensures err { OnErr result (self.new.turns ≡ self.old.turns) }
+        ensures waiting { OnErr result (WaitAsBefore pending.old pending.new) }
     {
         if let Err(why) = self.ready(pending) {
             return Err(why);
@@ -142,6 +150,7 @@ impl<J: History> InMemory<J> {
         ensures few { OnOk result (length self.new.turns < 2 ^ 61) }
         ensures open { OnOk result ((self.new ≡ self.old) × (self.new.shut ≡ None)) }
         ensures turns { self.new.turns ≡ self.old.turns }
+        ensures waiting { WaitAsBefore pending.old pending.new }
         ensures legal { IsLegalSince J.opening self.new.turns }
         ensures why { IfErr result (IsMemoryFault self.old self.new) }
     {

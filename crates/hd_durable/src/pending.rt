@@ -48,6 +48,9 @@ impl<J: History> Pending<J> {
     /// None since this history.
     pub(crate) fn new(alloc: Global, front: &Front<J>) -> Pending<J>
         requires { IsLegalSince J.opening front.now }
+        ensures none { result.turns ≡ [] }
+        ensures from { result.from ≡ front.now }
+        ensures upto { result.upto ≡ front.now }
     {
         Pending {
             turns: Vec::new(alloc),
@@ -69,7 +72,9 @@ impl<J: History> Pending<J> {
     /// Out of memory.
     pub(crate) fn ready(&mut self) -> Result<(), AllocError>
         ensures room { OnOk result (length self.new.turns < self.new.room) }
-        ensures same { (self.new.turns ≡ self.old.turns) × (self.new.upto ≡ self.old.upto) }
+        ensures turns { self.new.turns ≡ self.old.turns }
+        ensures from { self.new.from ≡ self.old.from }
+        ensures upto { self.new.upto ≡ self.old.upto }
     {
         self.turns.reserve(1)
     }
@@ -78,7 +83,9 @@ impl<J: History> Pending<J> {
     pub(crate) fn push(&mut self, turn: Entry<Global>, upto: &Front<J>)
         requires room { length self.old.turns < self.old.room }
         requires follows { MayFollow J.opening self.old.upto (turn ∷ []) upto.now }
-        ensures { self.new.turns ≡ self.old.turns ++ turn ∷ [] }
+        ensures turns { self.new.turns ≡ self.old.turns ++ turn ∷ [] }
+        ensures from { self.new.from ≡ self.old.from }
+        ensures upto { self.new.upto ≡ upto.now }
     {
         self.turns.push_reserved(turn);
         self.upto = upto.again();
@@ -86,7 +93,12 @@ impl<J: History> Pending<J> {
 
     /// All of them, with the history before them and with them. There are none then.
     pub(crate) fn hand_over(&mut self, alloc: Global) -> (Vec<Entry<Global>>, Front<J>, Front<J>)
-        ensures { MayFollow J.opening result.1 result.0.items result.2 }
+        ensures follow { MayFollow J.opening result.1 result.0.items result.2 }
+        ensures turns { result.0.items ≡ self.old.turns }
+        ensures from { result.1 ≡ self.old.from }
+        ensures upto { result.2 ≡ self.old.upto }
+        ensures none { self.new.turns ≡ [] }
+        ensures next { (self.new.from ≡ self.old.upto) × (self.new.upto ≡ self.old.upto) }
     {
         let from = mem::replace(&mut self.from, self.upto.again());
         let turns = mem::replace(&mut self.turns, Vec::new(alloc));

@@ -1,4 +1,4 @@
-use Rattle.std.proofs.Common.{◌∷◌, [], ◌++◌, List, ap, subst, sym, ◌∙◌}
+use Rattle.std.proofs.Common.{◌∷◌, [], ◌++◌, List, append-nil, ap, false, subst, sym, true, ◌∙◌}
 use mathlib.Core.List.{IsPrefix}
 use Rattle.hd_rules.specs.Journal.{Turn}
 use Rattle.hd_rules.specs.Messages.{IsKnownMessage, SeatMessage}
@@ -6,7 +6,7 @@ use Rattle.hd_catalogue.specs.Contents.{facts_of}
 use Rattle.hd_journal.specs.Shown.{turn_shown}
 use Rattle.hd_durable.specs.Commits.{MemoryValue, changing_with}
 use Rattle.hd_durable.proofs.Prefixes.{prefix_self}
-use Rattle.hd_durable.proofs.Taking.{taken_follows, taken_in_memory, taken_legal, taken_same}
+use Rattle.hd_durable.proofs.Taking.{taken_follows, taken_in_memory, taken_legal, taken_same, taken_waits}
 use Rattle.hd_durable.proofs.memory.InMemory.take.Goals as goal
 
 pub invariant_of-self-then-not-is_changing : goal.invariant_of-self-then-not-is_changing
@@ -76,3 +76,33 @@ returns-clause-legal g c =
     ∙ (ap (λ (ts : List Turn). ts ++ turn_shown c.show.result ∷ []) c.again-front.ensures
     ∙ ap (λ (t : Turn). c.self.inside.front ++ t ∷ []) c.show.ensures))
     c.front-all.ensures.count c.front-all.type_inv
+
+pub returns-then-not-is_changing-clause-waits : goal.returns-then-not-is_changing-clause-waits
+returns-then-not-is_changing-clause-waits g c =
+    taken_waits g.J.History.opening c.self.inside.journal c.take_new.new.self c.asks.inside.journal
+    c.asks.inside.table c.in-Ok.new.made c.turn_of-turn.result c.self.inside.begun c.self.inside.taken
+    c.front-all.result _ c.add.new.self c.self.invariant
+    (ap (λ (v : MemoryValue). v.shut) c.self.view_is ∙ c.in_default.ensures.open.1) c.in-Ok.ensures.turn
+    c.take_new.ensures.legal c.asks.invariant c.turn_of-turn.ensures
+    (c.if-not-add.ensures
+    ∙ (ap (λ (ts : List Turn). ts ++ turn_shown c.show.result ∷ []) c.again-front.ensures
+    ∙ ap (λ (t : Turn). c.self.inside.front ++ t ∷ []) c.show.ensures))
+    c.front-all.ensures.count c.front-all.type_inv
+    false _ _ _ _ (sym c.in-Ok.ensures.changing ∙ c.if-not-is_changing.true)
+    (ap (λ (v : MemoryValue). v.turns) c.self.view_is ∙ c.ready.ensures.turns) c.asks.view_is
+    (c.ready.ensures.waiting.turns ∙ sym (append-nil _))
+
+pub returns-clause-waits : goal.returns-clause-waits
+returns-clause-waits g c =
+    taken_waits g.J.History.opening c.self.inside.journal c.take_new.new.self c.asks.inside.journal
+    c.asks.inside.table c.in-Ok.new.made c.turn_of-turn.result c.self.inside.begun c.self.inside.taken
+    c.front-all.result _ c.add.new.self c.self.invariant
+    (ap (λ (v : MemoryValue). v.shut) c.self.view_is ∙ c.in_default.ensures.open.1) c.in-Ok.ensures.turn
+    c.take_new.ensures.legal c.asks.invariant c.turn_of-turn.ensures
+    (c.if-not-add.ensures
+    ∙ (ap (λ (ts : List Turn). ts ++ turn_shown c.show.result ∷ []) c.again-front.ensures
+    ∙ ap (λ (t : Turn). c.self.inside.front ++ t ∷ []) c.show.ensures))
+    c.front-all.ensures.count c.front-all.type_inv
+    true _ _ _ _ (sym c.in-Ok.ensures.changing ∙ c.if-not-is_changing.false)
+    (ap (λ (v : MemoryValue). v.turns) c.self.view_is ∙ c.ready.ensures.turns) c.asks.view_is
+    (c.push.ensures.turns ∙ ap (λ (ts : List Turn). ts ++ c.turn_of-turn.result ∷ []) c.ready.ensures.waiting.turns)

@@ -1,5 +1,5 @@
 use Rattle.hd_durable.proofs.Committing.{also_committed}
-use Rattle.hd_durable.proofs.keeper.DurableKeeperKeeperGlobalAskCopies.settle.Goals as goal
+use Rattle.hd_durable.proofs.keeper.DurableKeeperKeeperGlobal.settle.Goals as goal
 
 pub returns-clause-safe : goal.returns-clause-safe
 returns-clause-safe g c turns covers =
