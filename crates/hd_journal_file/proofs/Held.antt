@@ -14,6 +14,7 @@ use Rattle.hd_catalogue.specs.Contents.{Contents, facts_of}
 use Rattle.hd_journal.specs.declared.fault.WriteFault.{WriteFault}
 use Rattle.hd_journal.specs.declared.fault.WriteFault.TheVariants.{Memory}
 use Rattle.hd_turn_row.specs.Rows.{AreTurnRows, IsRowOf}
+use Rattle.hd_turn_store.specs.Crashes.{HoldsTurns}
 use Rattle.hd_turn_store.specs.Holds.{Holds}
 use Rattle.hd_turn_store.specs.Kept.{KeptTurn, Head, cells}
 use Rattle.hd_turn_store.specs.Rows.{read_cells}
@@ -141,14 +142,20 @@ rowless g k c turns Memory why = inl refl
 rowless g k c turns fault (inl is) = cc
 rowless g k c turns fault (inr none) = inl none
 
+-- what files hold is opened
+pub held_is_opened : (one : OneMessage) {k : Contents} {now : State} {left : Image} {wanted : Wanted}
+    {turns opened : List Turn} → AreInFile k turns (HoldsTurns left) → HasCleanDisk now
+    → AreFound left false wanted now k opened → IsLegal (facts_of k) opened → opened ≡ turns
+held_is_opened one {k} {turns} {opened} held clean found legal =
+    let taken = found clean refl held.head held.rows held.keeps in
+    same_turns one k held.head.format held.head.format (start (facts_of k)) turns opened held.rows held.legal
+    legal held.are taken.are
+
 -- what was kept is opened
 pub opened_is_kept : (one : OneMessage) {k : Contents} {s now : State} {left : Image} {wanted : Wanted}
     {turns opened : List Turn} → HasTurns k s turns → AreLeftOf s left → HasCleanDisk now
     → AreFound left false wanted now k opened → IsLegal (facts_of k) opened → opened ≡ turns
-opened_is_kept one {k} {turns} {opened} held of clean found legal =
-    let taken = found clean refl held.head held.rows (of held.head held.rows held.keeps) in
-    same_turns one k held.head.format held.head.format (start (facts_of k)) turns opened held.rows held.legal
-    legal held.are taken.are
+opened_is_kept one held of clean found legal = held_is_opened one (keeping of held) clean found legal
 
 -- a file that was begun holds no turn, and one whose turns were taken again holds these
 pub journal_held : {image : Image} (is_new : Bool) {s : State} {wanted : Wanted} {digest : Option (List ℕ)}

@@ -1,6 +1,7 @@
 //! What a crash leaves, and what is opened.
 
 ghost use Rattle.std.specs.Prelude.{◌≡◌, false, List, None, Some};
+ghost use mathlib.Core.List.{IsPrefix};
 ghost use Rattle.sqlite.specs.Held.{state};
 ghost use Rattle.sqlite.specs.Recovery.{Image};
 ghost use Rattle.sqlite.specs.WalFiles.{image_at};
@@ -8,15 +9,17 @@ ghost use Rattle.sqlite.specs.State.{HasCleanDisk};
 ghost use Rattle.hd_catalogue.specs.Contents.{Contents, facts_of};
 ghost use Rattle.hd_rules.specs.Journal.{IsLegal, Turn};
 ghost use Rattle.hd_journal.specs.Changing.{changing};
+ghost use Rattle.hd_journal.specs.Openings.{Opening};
+ghost use Rattle.hd_durable.specs.Commits.{IsCommitted, changing_with};
 ghost use Rattle.hd_turn_store.specs.Crashes.{HoldsTurns};
 ghost use Rattle.hd_turn_store.specs.Kept.{Head, KeptTurn};
-ghost use Rattle.hd_journal_file.specs.Held.{HasTurns, IsReliable, MayLeave};
+ghost use Rattle.hd_journal_file.specs.Held.{AreInFile, HasTurns, IsReliable, MayLeave};
 ghost use Rattle.hd_journal_file.specs.Opening.{AreFound, AreLeftOf, MayBeTaken};
 ghost use Rattle.hd_journal_file.specs.declared.opening.Wanted.{Wanted};
 
 use crate::adding::a_crash_leaves_what_is_seen;
 use crate::file::JournalFile;
-use hd_durable::DurableJournal;
+use hd_durable::{DurableJournal, TurnTable};
 use hd_turn_row::a_row_is_of_one_message;
 use hd_turn_store::{Alter, Connection, Start};
 
@@ -63,6 +66,38 @@ pub fn what_was_committed_is_opened<S: Alter, T: Alter>(
         → HasCleanDisk (state T.Store _next.now)
         → AreFound left false wanted (state T.Store _next.now) k opened
         → IsLegal (facts_of k) opened → opened ≡ turns }
+{
+    a_row_is_of_one_message();
+}
+
+/// The same of a hall that runs: from a turn that was answered over a stop to the next start. `IsCommitted` is
+/// what `Hall::submit` ensures of the turns up to that one (`safe` of `DurableKeeper`): there is a file, as it
+/// was once they were committed, of which whatever a stop leaves begins with the changing ones of these turns.
+///
+/// Of files that hold what a stop may leave of that one a journal is opened with just the turns that they
+/// hold, and so it begins with the changing ones of those that were answered (`opened`). Where nothing was
+/// being committed as the stop came, a crash leaves such files (`at_rest`). `_file` is any file of a journal,
+/// and `_next` the connection after the stop.
+pub fn what_was_kept_is_opened<S: Alter, F: Start, T: Alter>(
+    _file: &JournalFile<S, F>,
+    _next: &Connection<T>,
+)
+    ensures opened { let of = ⟦<JournalFile<S, F> as TurnTable>⟧ in
+        (o : Opening) (turns held opened : List Turn) (left : Image) (wanted : Wanted)
+        (kept : IsCommitted of.contents of.leaves o turns) → of.leaves kept.table held
+        → AreInFile o.contents held (HoldsTurns left) → HasCleanDisk (state T.Store _next.now)
+        → AreFound left false wanted (state T.Store _next.now) o.contents opened
+        → IsLegal (facts_of o.contents) opened
+        → (opened ≡ held) × IsPrefix (changing_with o turns) opened }
+    ensures at_rest { let of = ⟦<JournalFile<S, F> as TurnTable>⟧ in
+        (o : Opening) (turns held opened : List Turn) (left : Image) (wanted : Wanted)
+        (kept : IsCommitted of.contents of.leaves o turns)
+        → IsReliable (image_at F.Start) kept.table.is_new (state S.Store kept.table.conn)
+        → HasTurns o.contents (state S.Store kept.table.conn) held
+        → AreLeftOf (state S.Store kept.table.conn) left → HasCleanDisk (state T.Store _next.now)
+        → AreFound left false wanted (state T.Store _next.now) o.contents opened
+        → IsLegal (facts_of o.contents) opened
+        → (opened ≡ held) × IsPrefix (changing_with o turns) opened }
 {
     a_row_is_of_one_message();
 }

@@ -17,7 +17,9 @@ mod telling;
 
 pub use crate::fault::{OutcomeColumn, RestoreFault};
 pub use crate::file::JournalFile;
-pub use crate::laws::{what_was_answered_is_opened, what_was_committed_is_opened};
+pub use crate::laws::{
+    what_was_answered_is_opened, what_was_committed_is_opened, what_was_kept_is_opened,
+};
 pub use crate::open_fault::OpenFault;
 pub use crate::opening::{Wanted, open, open_over};
 pub use crate::progress::Progress;
