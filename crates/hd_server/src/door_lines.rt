@@ -32,7 +32,6 @@ impl<'a, H: House, R: Wait + Clock, O: Gate + Observer, K: SharedKeeper + Drop> 
         self.is_on
     }
 
-    #[tactic(auto, using(crate::proofs::Lines::gives))]
     fn play(
         &self,
         terminal: &[u8],
