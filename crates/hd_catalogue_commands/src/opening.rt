@@ -57,9 +57,10 @@ fn rows_of(
     sheets: &OpeningSheets<'_>,
     listing: &Listing,
 ) -> Result<OpeningRows, CatalogueCommandFault> {
-    match sheets.rows(alloc)? {
-        Some(rows) if listing.is_empty() => Ok(rows),
-        _ => Err(CatalogueCommandFault::Sheets(listing.text(alloc)?)),
+    if listing.is_empty() {
+        Ok(sheets.rows(alloc)?)
+    } else {
+        Err(CatalogueCommandFault::Sheets(listing.text(alloc)?))
     }
 }
 

@@ -5,7 +5,7 @@ use crate::names::names_of;
 use crate::tables::{Table, TableReader};
 use hd_catalogue::{Catalogue, OpeningRow};
 use hd_import::{Format, Source};
-use hd_import_opening::{Sheet, all_said, in_order, opening_of};
+use hd_import_opening::{Sheet, in_order, opening_of};
 use std::alloc::{AllocError, Global};
 
 /// The files of the old system's sheets, by their paths and bytes. One that isn't there has no bytes.
@@ -62,26 +62,23 @@ impl<'a> OpeningSheets<'a> {
         })
     }
 
-    /// The rows of the opening that the sheets make, if each of their rows says something.
+    /// The rows of the opening that the sheets make, of which nothing is listed.
     ///
     /// # Errors
     /// Out of memory.
-    pub(crate) fn rows(&self, alloc: Global) -> Result<Option<OpeningRows>, AllocError> {
-        let Some(loans) = all_said(alloc, self.loans.said.as_slice())? else {
-            return Ok(None);
-        };
-        let Some(mut holds) = all_said(alloc, self.holds.said.as_slice())? else {
-            return Ok(None);
-        };
-        let Some(shelf) = all_said(alloc, self.shelf.said.as_slice())? else {
-            return Ok(None);
-        };
+    pub(crate) fn rows(&self, alloc: Global) -> Result<OpeningRows, AllocError> {
+        let mut holds = Vec::from_slice(alloc, self.holds.said.as_slice())?;
         in_order(&mut holds)?;
-        let rows = opening_of(alloc, loans.as_slice(), holds.as_slice(), shelf.as_slice())?;
-        Ok(Some(OpeningRows {
+        let rows = opening_of(
+            alloc,
+            self.loans.said.as_slice(),
+            holds.as_slice(),
+            self.shelf.said.as_slice(),
+        )?;
+        Ok(OpeningRows {
             rows,
             last: holds.len(),
-        }))
+        })
     }
     /// That headings of the sheets aren't used, a line for each sheet that has some.
     ///

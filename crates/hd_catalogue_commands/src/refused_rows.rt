@@ -112,9 +112,7 @@ fn place_of(
 ) -> Result<String, AllocError> {
     let mut found = 0usize;
     for index in 0..table.said.len() {
-        if let Ok(said) = &table.said[index]
-            && is_of(&said.row, row)
-        {
+        if is_of(&table.said[index].row, row) {
             found = index;
         }
     }

@@ -18,8 +18,8 @@ pub(crate) struct Table<'a> {
     pub(crate) file: Source<'a>,
     /// Its rows, the headings first.
     rows: Vec<StringRecord>,
-    /// What the rows below the headings say.
-    pub(crate) said: Vec<Result<Said, Column>>,
+    /// What the rows below the headings say, but for those that say nothing, which are listed.
+    pub(crate) said: Vec<Said>,
 }
 
 impl Table<'_> {
@@ -130,8 +130,8 @@ impl TableReader<'_> {
         }
     }
 
-    /// What the rows of a sheet say below its headings. What says nothing is listed. There is nothing where a
-    /// column is missing, which is listed too.
+    /// What the rows of a sheet say below its headings. Those that say nothing are left out, and listed. There
+    /// is nothing where a column is missing, which is listed too.
     ///
     /// # Errors
     /// Out of memory.
@@ -142,17 +142,15 @@ impl TableReader<'_> {
         headings: &StringRecord,
         rows: &[StringRecord],
         listing: &mut Listing,
-    ) -> Result<Vec<Result<Said, Column>>, AllocError> {
+    ) -> Result<Vec<Said>, AllocError> {
         let mut said = Vec::new(self.alloc);
         if list_missing(self.alloc, sheet, file, headings, listing)? {
             return Ok(said);
         }
         for row in rows {
-            said.push(read_row(self.catalogue, sheet, headings, row))?;
-        }
-        for index in 0..said.len().min(rows.len()) {
-            if let Err(column) = &said[index] {
-                self.list_value(file, headings, &rows[index], *column, listing)?;
+            match read_row(self.catalogue, sheet, headings, row) {
+                Ok(found) => said.push(found)?,
+                Err(column) => self.list_value(file, headings, row, column, listing)?,
             }
         }
         Ok(said)
