@@ -148,12 +148,31 @@ impl TableReader<'_> {
             return Ok(said);
         }
         for row in rows {
-            match read_row(self.catalogue, sheet, headings, row) {
-                Ok(found) => said.push(found)?,
-                Err(column) => self.list_value(file, headings, row, column, listing)?,
-            }
+            self.put_said(sheet, file, headings, row, &mut said, listing)?;
         }
         Ok(said)
+    }
+
+    /// Appends what a row says, or lists it where it says nothing.
+    ///
+    /// # Errors
+    /// Out of memory.
+    fn put_said(
+        &self,
+        sheet: Sheet,
+        file: Source<'_>,
+        headings: &StringRecord,
+        row: &StringRecord,
+        said: &mut Vec<Said>,
+        listing: &mut Listing,
+    ) -> Result<(), AllocError> {
+        match read_row(self.catalogue, sheet, headings, row) {
+            Ok(found) => {
+                said.push(found)?;
+                Ok(())
+            }
+            Err(column) => self.list_value(file, headings, row, column, listing),
+        }
     }
 
     /// Lists the value that says nothing in a column of a row.
