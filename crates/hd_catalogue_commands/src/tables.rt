@@ -153,6 +153,7 @@ impl TableReader<'_> {
         Ok(said)
     }
 
+    // It is taken apart, so that the proof knows the types of its parts.
     /// Appends what a row says, or lists it where it says nothing.
     ///
     /// # Errors
@@ -167,8 +168,8 @@ impl TableReader<'_> {
         listing: &mut Listing,
     ) -> Result<(), AllocError> {
         match read_row(self.catalogue, sheet, headings, row) {
-            Ok(found) => {
-                said.push(found)?;
+            Ok(Said { placed, row: says }) => {
+                said.push(Said { placed, row: says })?;
                 Ok(())
             }
             Err(column) => self.list_value(file, headings, row, column, listing),
