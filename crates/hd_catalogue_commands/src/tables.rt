@@ -153,7 +153,6 @@ impl TableReader<'_> {
         Ok(said)
     }
 
-    // It is taken apart, so that the proof knows the types of its parts.
     /// Appends what a row says, or lists it where it says nothing.
     ///
     /// # Errors
@@ -168,6 +167,7 @@ impl TableReader<'_> {
         listing: &mut Listing,
     ) -> Result<(), AllocError> {
         match read_row(self.catalogue, sheet, headings, row) {
+            // Taken apart, so that the proof knows the types of its parts.
             Ok(Said { placed, row: says }) => {
                 said.push(Said { placed, row: says })?;
                 Ok(())
