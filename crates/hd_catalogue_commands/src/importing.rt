@@ -111,7 +111,11 @@ fn opening_of(
     catalogue: &[u8],
 ) -> Result<Opened, CatalogueCommandFault> {
     let sheets = read_old_sheets(rt, asked)?;
-    make_opening(rt, catalogue, format, old_sources_of(asked, &sheets))
+    let loans = asked.loans.unwrap_or("the loans");
+    let holds = asked.holds.unwrap_or("the holds");
+    let shelf = asked.shelf.unwrap_or("the shelf");
+    let sources = old_sources_of(loans, holds, shelf, &sheets);
+    make_opening(rt, catalogue, format, sources)
 }
 
 /// The catalogue file that sheets make.

@@ -71,13 +71,15 @@ pub(crate) fn sources_of<'a>(order: &Import<'a>, sheets: &'a Sheets) -> Sources<
 
 /// The files of the old system's sheets, by their paths and bytes.
 pub(crate) fn old_sources_of<'a>(
-    asked: &ImportedOpening<'a>,
+    loans: &'a str,
+    holds: &'a str,
+    shelf: &'a str,
     sheets: &'a OldSheets,
 ) -> OldSources<'a> {
     OldSources {
-        loans: source_of(asked.loans.unwrap_or("the loans"), sheets.loans.as_slice()),
-        holds: source_of(asked.holds.unwrap_or("the holds"), sheets.holds.as_slice()),
-        shelf: source_of(asked.shelf.unwrap_or("the shelf"), sheets.shelf.as_slice()),
+        loans: source_of(loans, sheets.loans.as_slice()),
+        holds: source_of(holds, sheets.holds.as_slice()),
+        shelf: source_of(shelf, sheets.shelf.as_slice()),
     }
 }
 
