@@ -103,9 +103,8 @@ impl<'a, J: History, R, T: TurnTable + Drop> Turns for DurableKeeper<'a, J, R, T
     }
 }
 
-impl<'a, J: History + Send + Sync, R: Wait + Clock + Sync, T: TurnTable + Drop + Send> Keeper<
-    Global,
-> for DurableKeeper<'a, J, R, T> {
+impl<'a, J: History, R: Wait + Clock, T: TurnTable + Drop> Keeper<Global>
+    for DurableKeeper<'a, J, R, T> {
     ghost use Rattle.hd_journal.specs.Faults.{IsMemoryOrUnwritten};
     ghost use Rattle.hd_durable.specs.Commits.{HasChanging, IsCommitted, IsMemoryFault};
 
@@ -153,12 +152,8 @@ impl<'a, J: History + Send + Sync, R: Wait + Clock + Sync, T: TurnTable + Drop +
     }
 }
 
-impl<
-    'a,
-    J: History + Send + Sync,
-    R: Wait + Clock + Sync,
-    T: TurnTable + Drop + Send,
-> CataloguedKeeper<Global> for DurableKeeper<'a, J, R, T> {
+impl<'a, J: History, R: Wait + Clock, T: TurnTable + Drop> CataloguedKeeper<Global>
+    for DurableKeeper<'a, J, R, T> {
     fn catalogue(&self) -> &Arc<Catalogue<Global>, Global> {
         self.memory.catalogue()
     }

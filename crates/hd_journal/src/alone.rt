@@ -68,7 +68,7 @@ impl<A: Allocator + Copy> Turns for Journal<A> {
     }
 }
 
-impl<A: Allocator + Copy + Send> Keeper<A> for Journal<A> {
+impl<A: Allocator + Copy> Keeper<A> for Journal<A> {
     ghost use Rattle.std.specs.Prelude.{None};
     ghost use Rattle.hd_journal.specs.Faults.{IsMemory};
 
@@ -112,7 +112,7 @@ impl<A: Allocator + Copy + Send> Keeper<A> for Journal<A> {
     }
 }
 
-impl<A: Allocator + Copy + Send> CataloguedKeeper<A> for Journal<A> {
+impl<A: Allocator + Copy> CataloguedKeeper<A> for Journal<A> {
     fn catalogue(&self) -> &Arc<Catalogue<A>, A> {
         self.desk().catalogue()
     }

@@ -46,7 +46,7 @@ pub trait Turns {
 /// with each turn before it is answered.
 pub trait Keeper<A: Allocator>: Turns {
     /// What it keeps of an ask, made before the lock is taken.
-    type AskCopy: Drop + Send;
+    type AskCopy: Drop;
 
     /// What that asks.
     ghost asks: { Self.AskCopy → SeatMessage };
@@ -61,7 +61,7 @@ pub trait Keeper<A: Allocator>: Turns {
     ghost shut: { Self → Option WriteFault };
 
     /// What a caller waits for, with no lock held, before it answers with turns of this keeper.
-    type Ticket: Drop + Send;
+    type Ticket: Drop;
 
     /// That a ticket is of these turns.
     ghost covers: { Self.Ticket → List Turn → Type 0 };

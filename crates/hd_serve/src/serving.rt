@@ -51,6 +51,9 @@ pub fn serve<R: Threads + Wait + Clock + Sync, G: Gate, K: CataloguedKeeper<Glob
     options: &Options<'_>,
     gate: &G,
 ) -> Result<K, ServeFault>
+where
+    K::AskCopy: Send,
+    K::Ticket: Send,
     requires turns { K.turns keeper ≡ [] }
     requires workers { (1 ≤ options.now.workers) × (options.now.workers ≤ 9999) }
     ensures opening { IfOk result (λ closed. K.opening closed ≡ K.opening keeper) }
@@ -75,6 +78,9 @@ pub fn serve_observed<
     options: &Options<'_>,
     observer: &O,
 ) -> Result<K, ServeFault>
+where
+    K::AskCopy: Send,
+    K::Ticket: Send,
     requires turns { K.turns keeper ≡ [] }
     requires workers { (1 ≤ options.now.workers) × (options.now.workers ≤ 9999) }
     ensures opening { IfOk result (λ closed. K.opening closed ≡ K.opening keeper) }
@@ -99,6 +105,9 @@ fn serve_in<
     options: &Options<'_>,
     observer: &O,
 ) -> Result<K, ServeFault>
+where
+    K::AskCopy: Send,
+    K::Ticket: Send,
     requires turns { K.turns keeper ≡ [] }
     requires opening { K.opening keeper ≡ H.opening }
     requires name { blank.name ≡ H.name }

@@ -12,9 +12,9 @@ use crate::gate::{Gate, Observer};
 use crate::options::Options;
 use crate::places::Places;
 use crate::standing::Standing;
-use crate::worker::{Service, SharedKeeper};
+use crate::worker::Service;
 use crossbeam_channel::{Sender, bounded};
-use hd_hall::{Closed, Hall, House, Keeper, Seat, Turns};
+use hd_hall::{Closed, Hall, House, Keeper, Seat, SharedKeeper, Turns};
 use hd_journal::WriteFault;
 use hd_log::Event;
 use std::alloc::Global;
@@ -145,6 +145,9 @@ pub fn serve_terminals<
     options: &Options<'_>,
     observer: &O,
 ) -> Result<Accepted, ServeFault>
+where
+    K::AskCopy: Send,
+    K::Ticket: Send,
     requires workers { (1 ≤ options.now.workers) × (options.now.workers ≤ 9999) }
     ensures why { IfErr result (λ fault. fault ≡ Memory) }
 {
@@ -177,7 +180,11 @@ fn serve_by<
     listener: &TcpListener,
     to: Sender<Connection>,
     observer: &O,
-) -> Result<(), ServeFault> {
+) -> Result<(), ServeFault>
+where
+    K::AskCopy: Send,
+    K::Ticket: Send,
+{
     thread::scope(thread::scope_env(), rt, |scope| {
         let mut started = 0u32;
         for _ in 0..service.options.workers {

@@ -21,7 +21,7 @@ use crossbeam_channel::Receiver;
 use hd_attend::{AttendFault, attend};
 use hd_connection::Fallible;
 use hd_exchange::profile_of;
-use hd_hall::{Counter, Hall, House, Keeper, Seat, Turns};
+use hd_hall::{Counter, Hall, House, Seat, SharedKeeper, Turns};
 use hd_journal::TurnFault;
 use hd_list_rows::CountsReader;
 use hd_log::{ConnectionEvent, End, Event};
@@ -31,12 +31,6 @@ use std::io;
 use std::net::TcpStream;
 use std::sync::{Mutex, Wait};
 use std::time::{Clock, Duration, Instant};
-
-/// The keeper of a hall whose workers are threads. It has no argument of its own: a closure that is passed to a
-/// thread may rest on such a bound alone.
-pub(crate) trait SharedKeeper: Keeper<Global> {}
-
-impl<K: Keeper<Global>> SharedKeeper for K {}
 
 /// What the workers of a server share.
 #[derive(Drop)]

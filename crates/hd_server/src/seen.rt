@@ -64,6 +64,9 @@ pub fn serve_seen<
     options: &Options<'_>,
     sight: &'x Sight<'x, O>,
 ) -> Result<K, ServerFault>
+where
+    K::AskCopy: Send,
+    K::Ticket: Send,
     requires turns { K.turns keeper ≡ [] }
     requires workers { (1 ≤ options.now.workers) × (options.now.workers ≤ 9999) }
     ensures opening { IfOk result (λ closed. K.opening closed ≡ K.opening keeper) }
@@ -91,6 +94,9 @@ fn serve_in<
     options: &Options<'_>,
     sight: &'x Sight<'x, O>,
 ) -> Result<K, ServeFault>
+where
+    K::AskCopy: Send,
+    K::Ticket: Send,
     requires turns { K.turns keeper ≡ [] }
     requires opening { K.opening keeper ≡ H.opening }
     requires name { blank.name ≡ H.name }

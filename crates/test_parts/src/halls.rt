@@ -58,6 +58,9 @@ fn clash_at<
     R: Threads + Wait + Sync,
     K: CataloguedKeeper<Global> + Drop + Send,
 >(rt: &R, alloc: Global, keeper: K, blank: Blank) -> Option<K>
+where
+    K::AskCopy: Send,
+    K::Ticket: Send,
     requires turns { K.turns keeper ≡ [] }
     requires opening { K.opening keeper ≡ H.opening }
     requires name { blank.name ≡ H.name }
@@ -86,6 +89,9 @@ fn looks_at<
     R: Threads + Wait + Sync,
     K: CataloguedKeeper<Global> + Drop + Send,
 >(rt: &R, alloc: Global, keeper: K, blank: Blank) -> bool
+where
+    K::AskCopy: Send,
+    K::Ticket: Send,
     requires turns { K.turns keeper ≡ [] }
     requires opening { K.opening keeper ≡ H.opening }
     requires name { blank.name ≡ H.name }

@@ -5,7 +5,7 @@ use crate::halls::asking::ask;
 use crate::halls::closing::{close, seats};
 use crate::halls::row::{Closing, OTHER};
 use crate::wishes::{Deed, Names, ONE};
-use hd_hall::{Hall, House, Keeper, Seat};
+use hd_hall::{Hall, House, Seat, SharedKeeper};
 use std::alloc::Global;
 use std::sync::Wait;
 use std::thread::{Threads, join};
@@ -15,8 +15,11 @@ use std::thread::{Threads, join};
 pub(crate) fn two_terminals_clash<
     H: House + Send + Sync,
     R: Threads + Wait + Sync,
-    K: Keeper<Global> + Drop + Send,
+    K: SharedKeeper + Drop + Send,
 >(rt: &R, alloc: Global, hall: Hall<H, Global, K>) -> Option<K>
+where
+    K::AskCopy: Send,
+    K::Ticket: Send,
     requires { H.parts ≡ 4294967296 }
 {
     match seats(rt, &hall) {
@@ -29,12 +32,15 @@ pub(crate) fn two_terminals_clash<
 }
 
 /// Has the one seat ask in one thread and the other in another.
-fn side_by_side<H: House + Send + Sync, R: Threads + Wait + Sync, K: Keeper<Global> + Drop + Send>(
+fn side_by_side<H: House + Send + Sync, R: Threads + Wait + Sync, K: SharedKeeper + Drop + Send>(
     rt: &R,
     hall: &Hall<H, Global, K>,
     one: Seat<H>,
     two: Seat<H>,
 ) -> (Seat<H>, Seat<H>)
+where
+    K::AskCopy: Send,
+    K::Ticket: Send,
     requires one { one.parts ≡ 1 }
     requires two { two.parts ≡ 1 }
     ensures { (result.0.parts ≡ 1) × (result.1.parts ≡ 1) }
@@ -53,7 +59,7 @@ fn side_by_side<H: House + Send + Sync, R: Threads + Wait + Sync, K: Keeper<Glob
 }
 
 /// Holds and cancels 50 times from a seat.
-fn ask_often<H: House, R: Wait, K: Keeper<Global> + Drop>(
+fn ask_often<H: House, R: Wait, K: SharedKeeper + Drop>(
     rt: &R,
     hall: &Hall<H, Global, K>,
     mut seat: Seat<H>,

@@ -9,7 +9,7 @@ ghost use Rattle.std.specs.Prelude.{◌≡◌};
 use crate::halls::asking::ask;
 use crate::halls::glance::{Glance, Seen};
 use crate::wishes::{Deed, Names, ONE};
-use hd_hall::{Hall, House, Keeper, Seat};
+use hd_hall::{Hall, House, Seat, SharedKeeper};
 use hd_rules::TurnReply;
 use std::alloc::Global;
 use std::sync::Wait;
@@ -30,8 +30,12 @@ const TWO: Names = Names {
 pub(crate) fn look_beside<
     H: House + Send + Sync,
     R: Threads + Wait + Sync,
-    K: Keeper<Global> + Drop + Send,
->(rt: &R, hall: &Hall<H, Global, K>) -> bool {
+    K: SharedKeeper + Drop + Send,
+>(rt: &R, hall: &Hall<H, Global, K>) -> bool
+where
+    K::AskCopy: Send,
+    K::Ticket: Send,
+{
     let (seen, written) = join(
         rt,
         || -> bool { look_often(rt, hall) },
@@ -41,7 +45,7 @@ pub(crate) fn look_beside<
 }
 
 /// Looks at both patrons, again and again: whether no half of a turn is seen.
-fn look_often<H: House, R: Wait, K: Keeper<Global> + Drop>(
+fn look_often<H: House, R: Wait, K: SharedKeeper + Drop>(
     rt: &R,
     hall: &Hall<H, Global, K>,
 ) -> bool {
@@ -55,7 +59,7 @@ fn look_often<H: House, R: Wait, K: Keeper<Global> + Drop>(
 }
 
 /// What a look at the hall sees of a patron.
-fn glance_at<H: House, R: Wait, K: Keeper<Global> + Drop>(
+fn glance_at<H: House, R: Wait, K: SharedKeeper + Drop>(
     rt: &R,
     hall: &Hall<H, Global, K>,
     patron: &'static [u8],
@@ -66,10 +70,14 @@ fn glance_at<H: House, R: Wait, K: Keeper<Global> + Drop>(
 }
 
 /// Has the two terminals write, each in a thread of its own: whether each sees its turns.
-fn write_both<H: House + Send + Sync, R: Threads + Wait + Sync, K: Keeper<Global> + Drop + Send>(
+fn write_both<H: House + Send + Sync, R: Threads + Wait + Sync, K: SharedKeeper + Drop + Send>(
     rt: &R,
     hall: &Hall<H, Global, K>,
-) -> bool {
+) -> bool
+where
+    K::AskCopy: Send,
+    K::Ticket: Send,
+{
     let (one, two) = join(
         rt,
         || -> bool { write(rt, hall, &ONE) },
@@ -79,7 +87,7 @@ fn write_both<H: House + Send + Sync, R: Threads + Wait + Sync, K: Keeper<Global
 }
 
 /// Has a terminal write at a seat of its own: whether it sees each of its turns.
-fn write<H: House, R: Wait, K: Keeper<Global> + Drop>(
+fn write<H: House, R: Wait, K: SharedKeeper + Drop>(
     rt: &R,
     hall: &Hall<H, Global, K>,
     names: &Names,
@@ -92,7 +100,7 @@ fn write<H: House, R: Wait, K: Keeper<Global> + Drop>(
 
 /// Asks in each round, from a seat, for a hold, the return of a copy, which is then kept for it, and the end
 /// of the hold: whether each turn is seen from there.
-fn write_often<H: House, R: Wait, K: Keeper<Global> + Drop>(
+fn write_often<H: House, R: Wait, K: SharedKeeper + Drop>(
     rt: &R,
     hall: &Hall<H, Global, K>,
     seat: &mut Seat<H>,
@@ -113,7 +121,7 @@ fn write_often<H: House, R: Wait, K: Keeper<Global> + Drop>(
 
 /// Asks this from a seat: whether it is done, and a look from there then sees so many holds of the patron
 /// that are kept, and so many that wait.
-fn is_seen<H: House, R: Wait, K: Keeper<Global> + Drop>(
+fn is_seen<H: House, R: Wait, K: SharedKeeper + Drop>(
     rt: &R,
     hall: &Hall<H, Global, K>,
     seat: &mut Seat<H>,

@@ -103,6 +103,9 @@ fn play_kept<R: Threads + Wait + Clock + Sync, W: Row, K: CataloguedKeeper<Globa
     scale: Scale,
     row: &W,
 ) -> (Result<K, ServeFault>, bool)
+where
+    K::AskCopy: Send,
+    K::Ticket: Send,
     requires turns { K.turns keeper ≡ [] }
     requires workers { (1 ≤ scale.workers) × (scale.workers ≤ 64) }
 {
