@@ -84,6 +84,9 @@ pub(crate) fn serve_by<R: Threads + Wait + Clock + Sync, K: CataloguedKeeper<Glo
     keeper: K,
     serving: &Serving<'_>,
 ) -> Result<K, ServerFault>
+where
+    K::AskCopy: Send,
+    K::Ticket: Send,
     requires { K.turns keeper ≡ [] }
     ensures opening { IfOk result (λ closed. K.opening closed ≡ K.opening keeper) }
     ensures legal { IfOk result (λ closed. IsLegalSince (K.opening closed) (K.turns closed)) }
