@@ -14,7 +14,7 @@ use crate::places::Places;
 use crate::standing::Standing;
 use crate::worker::Service;
 use crossbeam_channel::{Sender, bounded};
-use hd_hall::{Closed, Hall, House, Keeper, Seat, SharedKeeper, Turns};
+use hd_hall::{Closed, Hall, House, Seat, SharedKeeper, Turns};
 use hd_journal::WriteFault;
 use hd_log::Event;
 use std::alloc::Global;
@@ -134,7 +134,7 @@ pub fn serve_terminals<
     H: House + Send + Sync,
     R: Threads + Wait + Clock + Sync,
     O: Gate + Observer,
-    K: Keeper<Global> + Drop + Send,
+    K: SharedKeeper + Drop + Send,
 >(
     rt: &R,
     alloc: Global,

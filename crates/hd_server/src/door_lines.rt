@@ -2,7 +2,7 @@
 ghost use Rattle.std.specs.Prelude.{◌≡◌};
 ghost use Rattle.hd_server.specs.Lines.{played};
 
-use hd_hall::{House, Keeper, Turns};
+use hd_hall::{House, SharedKeeper, Turns};
 use hd_http::{Played, Player};
 use hd_log::Lines;
 use hd_serve::{Gate, LinePlayer, Observer};
@@ -17,7 +17,7 @@ pub(crate) struct DoorLines<'a, H: House, R, O: Observer, K: Turns> {
     pub(crate) player: LinePlayer<'a, H, R, O, K>,
 }
 
-impl<'a, H: House, R: Wait + Clock, O: Gate + Observer, K: Keeper<Global> + Drop> Player
+impl<'a, H: House, R: Wait + Clock, O: Gate + Observer, K: SharedKeeper + Drop> Player
     for DoorLines<'a, H, R, O, K> {
     ghost use Rattle.hd_exchange.specs.Extensions.{extensions_lent};
     ghost use Rattle.hd_hall.specs.Faults.{IsHallFault};

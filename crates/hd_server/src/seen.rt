@@ -10,7 +10,7 @@ use crate::file_identity::{FileIdentity, first_identity};
 use crate::server_view::ServerView;
 use hd_door::{Door, OnStop, Service};
 use hd_durable::LastCommit;
-use hd_hall::{CataloguedKeeper, Closed, Hall, House, Keeper};
+use hd_hall::{CataloguedKeeper, Closed, Hall, House, Keeper, SharedKeeper};
 use hd_http::{Page, Player, View};
 use hd_journal::{Journal, Look};
 use hd_list_pages::HallView;
@@ -113,31 +113,66 @@ where
     let Ok(hall) = Hall::<H, Global, K>::new(alloc, keeper, blank) else {
         return Err(ServeFault::Memory);
     };
+    let seats = Seats::new(alloc);
+    let accepted = serve_over(
+        rt, host, &hall, begun, &seats, listener, &standing, options, sight,
+    )?;
+    let served = Served::of(rt, accepted, &standing, seats);
+    let Closed {
+        keeper,
+        ledger: _ledger,
+    } = served.close(hall)?;
+    Ok(keeper)
+}
+
+/// Serves terminals in a hall that is open, and beside them the door.
+fn serve_over<
+    'x,
+    H: House + Send + Sync,
+    R: Threads + Wait + Clock + Sync,
+    O: Gate + Observer,
+    K: SharedKeeper + Drop + Send,
+>(
+    rt: &'x R,
+    host: &'x HostRuntime,
+    hall: &Hall<H, Global, K>,
+    begun: usize,
+    seats: &Seats<H>,
+    listener: &TcpListener,
+    standing: &Standing,
+    options: &Options<'_>,
+    sight: &'x Sight<'x, O>,
+) -> Result<Accepted, ServeFault>
+where
+    K::AskCopy: Send,
+    K::Ticket: Send,
+    requires workers { (1 ≤ options.now.workers) × (options.now.workers ≤ 9999) }
+{
+    let alloc = host.alloc();
     let seen = Seen {
         door: sight.door,
         page: sight.page,
         files: sight.files,
         begun: first_identity(host, sight.files),
         last_commit: sight.last_commit,
-        standing: &standing,
+        standing,
         workers: options.workers,
     };
-    let view = HallView::new(rt, host, &hall, begun)?;
+    let view = HallView::new(rt, host, hall, begun)?;
     let observer = sight.observer;
-    let seats = Seats::new(alloc);
     let player = DoorLines {
         is_on: sight.has_lines,
         player: LinePlayer {
             rt,
             alloc,
-            hall: &hall,
-            seats: &seats,
-            standing: &standing,
+            hall,
+            seats,
+            standing,
             options: *options,
             observer,
         },
     };
-    let accepted = beside_door(
+    beside_door(
         rt,
         host,
         &seen,
@@ -147,16 +182,10 @@ where
             requires workers { (1 ≤ options.now.workers) × (options.now.workers ≤ 9999) }
         {
             serve_terminals(
-                rt, alloc, &hall, &seats, listener, &standing, options, observer,
+                rt, alloc, hall, seats, listener, standing, options, observer,
             )
         },
-    )??;
-    let served = Served::of(rt, accepted, &standing, seats);
-    let Closed {
-        keeper,
-        ledger: _ledger,
-    } = served.close(hall)?;
-    Ok(keeper)
+    )?
 }
 
 /// How many turns a journal has, if it is shown.
