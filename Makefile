@@ -194,12 +194,11 @@ wrong:
 	@python3 scripts/wrong_bodies --self-test
 	@python3 scripts/wrong_bodies $(ANEW)
 
-# The gate: the picture of the crates, the page, and what a change costs, by the table of crates; a seat of one hall at
-# another, which the types refuse; the sums by which refused wrong bodies are noted, and what is proved is kept; the
-# script that tries wrong bodies at some that mustn't count as refused; then all proofs, the wrong bodies that rt ci
-# tries, the tests and the stored runs, and beside them wrong bodies that the script tries: those that aren't noted as
-# refused, and a tenth of the others, or all with ANEW=--anew; what is played at the program that was just proved. Its
-# last line is rt ci's once more.
+# The gate: the picture of the crates, the page, and what a change costs, by the table of crates; bodies that the types
+# refuse; the sums by which refused wrong bodies are noted, and what is proved is kept; the script that tries wrong bodies
+# at some that mustn't count as refused; then all proofs, the wrong bodies that rt ci tries, the tests and the stored
+# runs, and beside them wrong bodies that the script tries: those that aren't noted as refused, and a tenth of the others,
+# or all with ANEW=--anew; what is played at the program that was just proved. Its last line is rt ci's once more.
 VERDICT = out/verdict
 test: ROUNDS = 20
 test: DAYS = 40
@@ -210,7 +209,7 @@ test:
 	@python3 scripts/make/make_page.py --check
 	@python3 scripts/make/make_monitoring.py --check
 	@python3 scripts/make/where_to_change.py --check
-	@python3 scripts/play/foreign_seat_refused.py
+	@python3 scripts/play/types_refuse.py
 	@python3 scripts/wrong_bodies/refused_sums.py
 	@python3 scripts/kept_sums.py
 	@python3 scripts/wrong_bodies --self-test
