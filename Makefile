@@ -66,7 +66,7 @@ PLAYED = python3 scripts/play/examples.py "$$program" && python3 scripts/play/ro
   python3 scripts/play/serve_rows.py "$$program" && python3 scripts/play/import_sheets.py "$$program" && \
   python3 scripts/play/first_day.py "$$program" && python3 scripts/play/long_queue.py "$$program" && \
   python3 scripts/play/serve_smoke.py "$$program" && python3 scripts/play/serve_kiosk.py "$$program" && \
-  python3 scripts/play/serve_hostile.py "$$program" && \
+  python3 scripts/play/serve_hostile.py "$$program" && python3 scripts/play/log_unread.py "$$program" && \
   python3 scripts/play/serve_many.py --terminals 100 --seconds 3 --latest 100 "$$program" && \
   python3 scripts/play/serve_door.py "$$program" && python3 scripts/play/desk_hour.py "$$program" && \
   python3 scripts/play/monitoring.py "$$program" && \

@@ -3,6 +3,7 @@
 
 mod door;
 mod fault;
+mod log_queue;
 mod observing;
 mod replaying;
 mod serving;

@@ -1,13 +1,16 @@
 //! What is told while the program serves.
-ghost use Rattle.std.specs.Prelude.{◌≡◌, ◌↔◌, IsTrue, false, true};
+ghost use Rattle.std.specs.Prelude.{◌≡◌, ◌↔◌, IfOk, IsTrue, false, true};
+ghost use Rattle.hd_log.specs.Events.{event_text};
 ghost use Rattle.hd_log.specs.declared.level.Level.TheVariants.{Events, Messages, Quiet};
 
 use hd_command_line::Log;
 use hd_log::{Event, Level, write_event};
 use hd_serve::{Gate, Observer};
+use std::alloc::{AllocError, Global};
 use std::io::Write;
 
-/// A gate that holds nobody, and tells what happens on standard error, a line for each event.
+/// A gate that holds nobody, and writes what happens to standard error, a line for each event. Where that is
+/// a pipe that is full, it waits until somebody reads of it.
 #[derive(Drop)]
 pub(crate) struct Teller<'a> {
     host: &'a HostRuntime,
@@ -35,21 +38,31 @@ impl<'a> Observer for Teller<'a> {
         self.level
     }
 
-    // A line that can't be written, or for which there is no memory, is left out. Where standard error is a
-    // pipe that is full, this waits until somebody reads of it, and so does the session of which it tells.
+    // A line that can't be written, or for which there is no memory, is left out.
     fn tell(&self, event: &Event<'_>) {
         if !is_told(event.level(), self.level) {
             return;
         }
-        let mut line = Vec::new(self.host.alloc());
-        if write_event(self.host.alloc(), &mut line, event).is_ok() {
+        if let Ok(line) = text_of(self.host.alloc(), event) {
             let _ = self.host.stderr().write_all(line.as_slice());
         }
     }
 }
 
+/// The line of an event.
+///
+/// # Errors
+/// Out of memory.
+pub(crate) fn text_of(alloc: Global, event: &Event<'_>) -> Result<Vec<u8>, AllocError>
+    ensures { IfOk result (λ line. line.items ≡ event_text event.now) }
+{
+    let mut line = Vec::new(alloc);
+    write_event(alloc, &mut line, event)?;
+    Ok(line)
+}
+
 /// Whether what has one level is told at another.
-fn is_told(event: Level, at: Level) -> bool
+pub(crate) fn is_told(event: Level, at: Level) -> bool
     ensures quiet { at ≡ Quiet → result ≡ false }
     ensures events { at ≡ Events → IsTrue result ↔ (event ≡ Events) }
     ensures messages { at ≡ Messages → result ≡ true }

@@ -3,8 +3,10 @@ ghost use Rattle.std.specs.Prelude.{◌≡◌, [], IfOk};
 ghost use Rattle.hd_journal.specs.Openings.{IsLegalSince};
 
 use crate::fault::Fault;
+use crate::log_queue::{MOST_LINES, QueueTeller, beside_writer, tell_left_out};
 use crate::observing::Teller;
 use crate::zone::zone_offset;
+use crossbeam_channel::bounded;
 use hd_catalogue::Catalogue;
 use hd_command_line::{Beyond, LibraryFiles, Serve};
 use hd_door::Door;
@@ -12,9 +14,9 @@ use hd_durable::LastCommit;
 use hd_hall::CataloguedKeeper;
 use hd_journal::Journal;
 use hd_library::{Library, extensions_of, options_of};
-use hd_log::Event;
+use hd_log::{Event, Level};
 use hd_page::page;
-use hd_serve::{Observer, ServeFault, serve_observed};
+use hd_serve::{Gate, Observer, ServeFault, serve_observed};
 use hd_server::{ServerFault, Sight, Summary, serve_seen, summary_of};
 use hd_session::Extensions;
 use hd_terminal_output::Counted;
@@ -76,7 +78,14 @@ pub(crate) fn listen_with_turns(
     listen(host, order, catalogue)
 }
 
-/// Serves terminals that connect at a port, and, where there is a door, whoever looks in.
+/// A keeper of the program's memory whose catalogue is shown, as a bound without an argument: what is passed
+/// to `beside_writer` may rest on no other.
+pub(crate) trait ServedKeeper: CataloguedKeeper<Global> {}
+
+impl<K: CataloguedKeeper<Global>> ServedKeeper for K {}
+
+/// Serves terminals that connect at a port, and, where there is a door, whoever looks in. Meanwhile a thread
+/// of its own writes the log (`log_queue`), unless that is to be quiet.
 pub(crate) fn serve_by<R: Threads + Wait + Clock + Sync, K: CataloguedKeeper<Global> + Drop + Send>(
     rt: &R,
     host: &HostRuntime,
@@ -91,8 +100,63 @@ where
     ensures opening { IfOk result (λ closed. K.opening closed ≡ K.opening keeper) }
     ensures legal { IfOk result (λ closed. IsLegalSince (K.opening closed) (K.turns closed)) }
 {
+    let teller = Teller::new(host, serving.order.log);
+    match teller.level() {
+        Level::Quiet => serve_told(rt, host, listener, keeper, serving, &teller),
+        level => serve_beside_writer(rt, host, listener, keeper, serving, level),
+    }
+}
+
+/// The same, with a log of this level, which a thread of its own writes.
+fn serve_beside_writer<R: Threads + Wait + Clock + Sync, K: ServedKeeper + Drop + Send>(
+    rt: &R,
+    host: &HostRuntime,
+    listener: TcpListener,
+    keeper: K,
+    serving: &Serving<'_>,
+    level: Level,
+) -> Result<K, ServerFault>
+where
+    K::AskCopy: Send,
+    K::Ticket: Send,
+    requires { K.turns keeper ≡ [] }
+    ensures opening { IfOk result (λ closed. K.opening closed ≡ K.opening keeper) }
+    ensures legal { IfOk result (λ closed. IsLegalSince (K.opening closed) (K.turns closed)) }
+{
+    let Ok((to, from)) = bounded(host.alloc(), MOST_LINES) else {
+        return Err(ServerFault::Serve(ServeFault::Memory));
+    };
+    let teller = QueueTeller::new(rt, host.alloc(), level, to);
+    let work = move || -> (Result<K, ServerFault>, u64)
+        requires { K.turns keeper ≡ [] }
+        ensures opening { IfOk result.0 (λ closed. K.opening closed ≡ K.opening keeper) }
+        ensures legal { IfOk result.0 (λ closed. IsLegalSince (K.opening closed) (K.turns closed)) }
+    {
+        let served = serve_told(rt, host, listener, keeper, serving, &teller);
+        (served, teller.end())
+    };
+    let (served, left_out) = beside_writer(rt, host, &from, work)?;
+    tell_left_out(host, left_out);
+    served
+}
+
+/// The same, where events are reported to this observer.
+fn serve_told<R: Threads + Wait + Clock + Sync, O: Gate + Observer, K: ServedKeeper + Drop + Send>(
+    rt: &R,
+    host: &HostRuntime,
+    listener: TcpListener,
+    keeper: K,
+    serving: &Serving<'_>,
+    observer: &O,
+) -> Result<K, ServerFault>
+where
+    K::AskCopy: Send,
+    K::Ticket: Send,
+    requires { K.turns keeper ≡ [] }
+    ensures opening { IfOk result (λ closed. K.opening closed ≡ K.opening keeper) }
+    ensures legal { IfOk result (λ closed. IsLegalSince (K.opening closed) (K.turns closed)) }
+{
     let options = options_of(serving.order, serving.extensions);
-    let observer = &Teller::new(host, serving.order.log);
     match serving.door {
         None => Ok(serve_observed(rt, host.alloc(), listener, keeper, &options, observer)?),
         Some(door) => {
